@@ -28,3 +28,4 @@ pub mod ServeHandsLemmas
 pub mod ServeWaysLemmas
 pub mod ServeTurnsLemmas
 pub mod ServeSpeaksLemmas
+pub mod ServerLemmas

@@ -20,11 +20,11 @@ use Rattle.sw_session.specs.declared.servers.fault.ServeFault.TheVariants as Fau
 use Rattle.sw_session.specs.Trace.{Entry, Leads}
 use Rattle.sw_session.specs.EngineStep.{LedBy}
 use Rattle.sw_session.specs.ServeWrite.{wire_on, wire_off}
-use Rattle.sw_session.specs.ServeHand.{availability_notes, HandsOver, HandsUpTo, manner, outlets}
+use Rattle.sw_session.specs.ServePoint.{Protocol, Voice, Point, point}
+use Rattle.sw_session.specs.ServeHand.{availability_notes, HandsOver, HandsUpTo}
 use Rattle.sw_session.specs.ServeRead.{PausesBy}
-use Rattle.sw_session.specs.Serve.{Protocol, Voice, Exchange, Speaks, acts_of, asks_of, said_of, arrived, is_refused, after_step, pauses}
+use Rattle.sw_session.specs.Serve.{Exchange, Speaks, acts_of, asks_of, said_of, arrived, is_refused, after_step, pauses}
 use Rattle.sw_session.specs.Serve.{is_pause}
-use Rattle.sw_session.specs.Serve.{Point, point}
 use Rattle.sw_session.specs.Serve.{Spoken, Stops, Breaks, GoesThrough, Processes, IsCutOff, Finds, TellsActs}
 use Rattle.sw_session.proofs.ServeKnownLemmas.{appends-nothing, appends-more}
 
@@ -172,50 +172,57 @@ stops-at u a b act rest fault k = record
 one-out : (f : Sent → List ℕ) (a b : Option (List ℕ)) (x : Exchange) → Appends a b (flat_map f x.step.out) → Appends a b (flat_map f (said_of (x ∷ [])))
 one-out f a b x p = subst (λ (l : List Sent). Appends a b (flat_map f l)) (sym (append-nil x.step.out)) p
 
-pub processes-ok : {E D : Type 0} (u : Voice E D) (s s' : E) (d e d' : D) (w w' y y' : Option (List ℕ))
-    (act : Act) (step : StepSeen) (after : AfterStep)
-    → LedBy u.passes d e (λ asked. u.protocol.speaks s act asked step s')
-    → HandsOver (manner u.passes (u.protocol.session s') u.own) (outlets e w y) (outlets d' w' y') step.out
-    → after ≡ after_step (is_refused act) step
-    → Processes u act (point s d w y) (point s' d' w' y') (Ok after)
-processes-ok u s s' d e d' w w' y y' act step after led hands a =
-    let noted : List Entry = availability_notes (u.protocol.session s') step.out in
+-- once the engine was asked, this is said: it stays, and the writers are as they were until then
+pub processes-ok : {E D : Type 0} (u : Voice E D) (a m b : Point E D) (act : Act) (step : StepSeen) (after : AfterStep)
+    → LedBy u.passes a.desk m.desk (λ asked. u.protocol.speaks a.engine act asked step m.engine) → m.main ≡ a.main → m.side ≡ a.side
+    → HandsOver u m b step.out → after ≡ after_step (is_refused act) step → Processes u act a b (Ok after)
+processes-ok u a m b act step after led main side hands k =
+    let noted : List Entry = availability_notes (u.protocol.session m.engine) step.out in
     let x : Exchange = record { act = act; asked = led.asked; step = step; noted = noted } in (
       x ∷ [],
       [],
       refl,
       λ g. refl,
       record {
-        speaks = speaks-one u.protocol s s' x after led.admits refl a;
-        asks = subst (λ (l : List Entry). Leads u.passes d l d') (sym (append-nil (led.asked ++ noted)))
-            (onward u.passes d e d' led.asked noted led.leads hands.notes);
-        main = one-out (wire_on u.own) w w' x hands.main;
-        side = one-out (wire_off u.own) y y' x hands.side;
+        speaks = subst (λ e. Speaks u.protocol a.engine (x ∷ []) after e) (sym hands.engine)
+            (speaks-one u.protocol a.engine m.engine x after led.admits refl k);
+        asks = subst (λ (l : List Entry). Leads u.passes a.desk l b.desk) (sym (append-nil (led.asked ++ noted)))
+            (onward u.passes a.desk m.desk b.desk led.asked noted led.leads hands.notes);
+        main = one-out (wire_on u.own) a.main b.main x
+            (subst (λ (o : Option (List ℕ)). Appends o b.main (flat_map (wire_on u.own) step.out)) main hands.main);
+        side = one-out (wire_off u.own) a.side b.side x
+            (subst (λ (o : Option (List ℕ)). Appends o b.side (flat_map (wire_off u.own) step.out)) side hands.side);
       },
     )
 
-cut-off : {E D : Type 0} (u : Voice E D) (s s' : E) (d e d' : D) (w w' y y' : Option (List ℕ)) (act : Act) (step : StepSeen) (fault : ServeFault)
-    → LedBy u.passes d e (λ asked. u.protocol.speaks s act asked step s')
-    → HandsUpTo (manner u.passes (u.protocol.session s') u.own) (outlets e w y) (outlets d' w' y') step.out fault
-    → IsCutOff u (point s d w y) (point s' d' w' y') act fault
-cut-off u s s' d e d' w w' y y' act step fault led cut = record
-    { asked = led.asked; step = step; speaks = led.admits; desk = e; asks = led.leads; cut = cut }
+cut-off : {E D : Type 0} (u : Voice E D) (a m b : Point E D) (act : Act) (step : StepSeen) (fault : ServeFault)
+    → LedBy u.passes a.desk m.desk (λ asked. u.protocol.speaks a.engine act asked step m.engine) → m.main ≡ a.main → m.side ≡ a.side
+    → HandsUpTo u m b step.out fault → IsCutOff u a b act fault
+cut-off u a m b act step fault led main side cut = record {
+  asked = led.asked;
+  step = step;
+  engine = m.engine;
+  speaks = led.admits;
+  desk = m.desk;
+  asks = led.leads;
+  cut = subst (λ (o : Option (List ℕ)). HandsUpTo u (point m.engine m.desk a.main o) b step.out fault) side
+      (subst (λ (o : Option (List ℕ)). HandsUpTo u (point m.engine m.desk o m.side) b step.out fault) main cut);
+}
 
-pub processes-err : {E D : Type 0} (u : Voice E D) (s s' : E) (d e d' : D) (w w' y y' : Option (List ℕ))
-    (act : Act) (step : StepSeen) (fault : ServeFault)
-    → LedBy u.passes d e (λ asked. u.protocol.speaks s act asked step s')
-    → HandsUpTo (manner u.passes (u.protocol.session s') u.own) (outlets e w y) (outlets d' w' y') step.out fault
-    → Processes u act (point s d w y) (point s' d' w' y') (Err fault)
-processes-err u s s' d e d' w w' y y' act step Fault.Write led cut = cut-off u s s' d e d' w w' y y' act step Fault.Write led cut
-processes-err u s s' d e d' w w' y y' act step Fault.NoMemory led cut = inl (cut-off u s s' d e d' w w' y y' act step Fault.NoMemory led cut)
-processes-err u s s' d e d' w w' y y' act step Fault.Read led cut = absurd cut.fails
-processes-err u s s' d e d' w w' y y' act step Fault.Wire led cut = absurd cut.fails
-processes-err u s s' d e d' w w' y y' act step Fault.Fatal led cut = absurd cut.fails
-processes-err u s s' d e d' w w' y y' act step Fault.ReadBound led cut = absurd cut.fails
+pub processes-err : {E D : Type 0} (u : Voice E D) (a m b : Point E D) (act : Act) (step : StepSeen) (fault : ServeFault)
+    → LedBy u.passes a.desk m.desk (λ asked. u.protocol.speaks a.engine act asked step m.engine) → m.main ≡ a.main → m.side ≡ a.side
+    → HandsUpTo u m b step.out fault → Processes u act a b (Err fault)
+processes-err u a m b act step Fault.Write led main side cut = cut-off u a m b act step Fault.Write led main side cut
+processes-err u a m b act step Fault.NoMemory led main side cut = inl (cut-off u a m b act step Fault.NoMemory led main side cut)
+processes-err u a m b act step Fault.Read led main side cut = absurd cut.fails
+processes-err u a m b act step Fault.Wire led main side cut = absurd cut.fails
+processes-err u a m b act step Fault.Fatal led main side cut = absurd cut.fails
+processes-err u a m b act step Fault.ReadBound led main side cut = absurd cut.fails
 
-pub processes-starved : {E D : Type 0} (u : Voice E D) (s s' : E) (d d' : D) (w y : Option (List ℕ)) (act : Act)
-    → LedBy u.passes d d' (λ asked. u.protocol.falters s act asked s') → Processes u act (point s d w y) (point s' d' w y) (Err Fault.NoMemory)
-processes-starved u s s' d d' w y act led = inr (record { asked = led.asked; falters = led.admits; asks = led.leads; main = refl; side = refl })
+pub processes-starved : {E D : Type 0} (u : Voice E D) (a b : Point E D) (act : Act)
+    → LedBy u.passes a.desk b.desk (λ asked. u.protocol.falters a.engine act asked b.engine) → b.main ≡ a.main → b.side ≡ a.side
+    → Processes u act a b (Err Fault.NoMemory)
+processes-starved u a b act led main side = inr (record { asked = led.asked; falters = led.admits; asks = led.leads; main = main; side = side })
 
 -- ---- reads that a time limit ended
 

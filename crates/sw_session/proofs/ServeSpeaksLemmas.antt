@@ -16,7 +16,8 @@ use Rattle.sw_session.specs.Trace.{Entry, Polled}
 use Rattle.sw_session.specs.EngineStep.{LedBy, goes, says, fails}
 use Rattle.sw_session.specs.Engine.{EngineStanding, fresh_engine, TakesMessage, Falters, session_of, channel_of_state, too_large, skips, notice_from}
 use Rattle.sw_session.specs.Engine.{noticed_from}
-use Rattle.sw_session.specs.Serve.{voice, RunsChannel, with_desk, LeavesSession}
+use Rattle.sw_session.specs.ServePoint.{voice}
+use Rattle.sw_session.specs.Serve.{RunsChannel, with_desk, LeavesSession}
 use Rattle.sw_session.specs.ServeEngine.{told_step, second_session_of, LooksFor, Looks, EngineSpeaks, EngineFalters, engine_protocol}
 use Rattle.sw_session.specs.ServeEngine.{Station, manned, ServesChannel}
 

@@ -18,7 +18,8 @@ use Rattle.sw_session.specs.declared.servers.turns.Received.TheVariants as Recei
 use Rattle.sw_session.specs.declared.servers.turns.Next.{Next}
 use Rattle.sw_session.specs.declared.servers.turns.Next.TheVariants.{On, Over}
 use Rattle.sw_session.specs.ServeRead.{PausesBy}
-use Rattle.sw_session.specs.Serve.{Voice, acts_for, arrived, pauses, Point, Stops, GoesThrough, Judges, ProcessesEach, HoldsMessage, TellsActs, Stands}
+use Rattle.sw_session.specs.ServePoint.{Voice, Point}
+use Rattle.sw_session.specs.Serve.{acts_for, arrived, pauses, Stops, GoesThrough, Judges, ProcessesEach, HoldsMessage, TellsActs, Stands}
 use Rattle.sw_session.specs.Serve.{Listens, HearsAll, conclude, Loses, Progress, progress, EndsWell, FailsBy, EndsTurn, Course, course, TakesServerTurn}
 use Rattle.sw_session.specs.Serve.{EndsRun, RunsChannel}
 use Rattle.sw_session.proofs.ServeKnownLemmas.{consumes-nothing, consumes-more}

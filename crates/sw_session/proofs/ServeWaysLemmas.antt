@@ -13,7 +13,8 @@ use Rattle.sw_session.specs.declared.servers.act.AfterStep.TheVariants.{Goes, En
 use Rattle.sw_session.specs.declared.servers.fault.ServeFault.{ServeFault}
 use Rattle.sw_session.specs.declared.servers.turns.Received.{Received}
 use Rattle.sw_session.specs.declared.servers.turns.Next.{Next}
-use Rattle.sw_session.specs.Serve.{Voice, acts_for, is_refused, pauses, Point, Stops, GoesThrough, Judges, Processes, ProcessesEach, Finds, HoldsMessage}
+use Rattle.sw_session.specs.ServePoint.{Voice, Point}
+use Rattle.sw_session.specs.Serve.{acts_for, is_refused, pauses, Stops, GoesThrough, Judges, Processes, ProcessesEach, Finds, HoldsMessage}
 use Rattle.sw_session.specs.Serve.{goes_on, NextInput, TellsActs, Stands, Listens, CountsReceived, HearsAll, Course, TakesServerTurn}
 use Rattle.sw_session.proofs.ServePartsLemmas.{found-unpaused, none-more, tells-nothing, tells-then, tells-found, goes-nowhere, goes-then, ends-before}
 use Rattle.sw_session.proofs.ServePartsLemmas.{stops-then}

@@ -1,6 +1,6 @@
 -- What a message of the synchronous channel has asked where memory ran out.
 use Prim.{tt}
-use Rattle.std.proofs.Common.{◌≡◌, ℕ, true, false, List, [], ◌++◌, Option, None, Result, Ok, Err, OnErr, inr, refl, sym, subst}
+use Rattle.std.proofs.Common.{◌≡◌, ℕ, true, List, [], ◌++◌, Option, None, Result, Ok, Err, OnErr, inr, refl, sym, subst}
 use Rattle.sw_hislip.specs.declared.message.Message.{Message}
 use Rattle.sw_session.specs.declared.engine.requests.SyncRequest.{SyncRequest}
 use Rattle.sw_session.specs.declared.engine.requests.SyncRequest.TheVariants as Request
@@ -8,11 +8,12 @@ use Rattle.sw_session.specs.declared.engine.step.Reply.{Reply}
 use Rattle.sw_session.specs.Said.{StepSeen}
 use Rattle.sw_session.specs.declared.engine.synchronous.Delivery.{Delivery}
 use Rattle.sw_session.specs.EngineKinds.{sync_request}
-use Rattle.sw_session.specs.EngineStep.{LedBy, goes}
-use Rattle.sw_session.specs.EngineSync.{SyncStanding, ProgramsShort, AttendedShort, ServesShort, FaltersSync, Attends}
-use Rattle.sw_session.specs.EngineSync.{gate_step, Delivers, delivery_step}
+use Rattle.sw_session.specs.EngineStep.{LedBy, goes, joined}
+use Rattle.sw_session.specs.EngineSync.{SyncStanding, Programs, Attended, ServesProgram, FallsShort, FaltersSync, Attends}
+use Rattle.sw_session.specs.EngineSync.{gate_step, Delivers, delivery_step, said_by_delivery}
 use Rattle.sw_session.specs.Trace.{Entry, Led}
 use Rattle.sw_session.proofs.LedLemmas.{leads-append}
+use Rattle.sw_session.proofs.SyncTalksLemmas.{went-on}
 
 -- nothing was asked
 pub short-none : {D : Type 0} (passes : D → Entry → D → Type 0) (d : D) (P : List Entry → Type 0) → P [] → LedBy passes d d P
@@ -25,42 +26,47 @@ short-else passes d P (Err e) h = short-none passes d P h
 
 -- a part, and a last one
 pub part-short : {D : Type 0} (passes : D → Entry → D → Type 0) (d : D) (request : SyncRequest) (s : SyncStanding) (m : Message) {X E : Type 0} (r : Result X E)
-    → request ≡ Request.Part → OnErr r (LedBy passes d d (λ asked. ProgramsShort request s m asked))
+    → request ≡ Request.Part → OnErr r (LedBy passes d d (λ asked. FallsShort (Programs true request s m) asked))
 part-short passes d request s m r is =
     let none : List Entry = [] in
-    short-else passes d (λ asked. ProgramsShort request s m asked) r (subst (λ (q : SyncRequest). ProgramsShort q s m none) (sym is) refl)
+    short-else passes d (λ asked. FallsShort (Programs true request s m) asked) r
+    (subst (λ (q : SyncRequest). FallsShort (Programs true q s m) none) (sym is) (goes [], s, refl))
 
 pub end-short : {D : Type 0} (passes : D → Entry → D → Type 0) (old new : D) (request : SyncRequest) (s : SyncStanding) (m : Message) {X E : Type 0}
     (r : Result X E)
     → request ≡ Request.End → OnErr r (LedBy passes old new (λ asked. asked ≡ []))
-    → OnErr r (LedBy passes old new (λ asked. ProgramsShort request s m asked))
-end-short passes old new request s m r is h = subst (λ (q : SyncRequest). OnErr r (LedBy passes old new (λ asked. ProgramsShort q s m asked))) (sym is) h
+    → OnErr r (LedBy passes old new (λ asked. FallsShort (Programs true request s m) asked))
+end-short passes old new request s m (Ok x) is h = tt
+end-short passes old new request s m (Err e) is h = record {
+  asked = h.asked;
+  leads = h.leads;
+  admits = subst (λ (q : SyncRequest). FallsShort (Programs true q s m) h.asked) (sym is) (goes [], s, h.admits);
+}
 
 -- the last answer was looked at before
-goes-on : (id : ℕ) (delivery : Delivery) → (delivery ≡ Delivery.Gone → ⊥) → (delivery_step id delivery).ends ≡ false
-goes-on id Delivery.Quiet not = refl
-goes-on id Delivery.Interrupted not = refl
-goes-on id Delivery.Gone not = absurd (not refl)
-
 pub processes-short : {D : Type 0} (passes : D → Entry → D → Type 0) (old mid new : D) (request : SyncRequest) (s : SyncStanding) (m : Message)
     (delivery : Delivery) {X E : Type 0} (r : Result X E)
     → (delivery ≡ Delivery.Gone → ⊥) → ((id : ℕ) → Led passes old mid (λ t rest. Delivers s.sid m.control id t (delivery_step id delivery) rest))
-    → OnErr r (LedBy passes mid new (λ asked. ProgramsShort request s m asked)) → OnErr r (LedBy passes old new (λ asked. AttendedShort request s m asked))
+    → OnErr r (LedBy passes mid new (λ asked. FallsShort (Programs true request s m) asked))
+    → OnErr r (LedBy passes old new (λ asked. FallsShort (Attended true request s m) asked))
 processes-short passes old mid new request s m delivery (Ok x) not led h = tt
 processes-short passes old mid new request s m delivery (Err e) not led h =
-    let l : Led passes old mid (λ t rest. Delivers s.sid m.control m.parameter t (delivery_step m.parameter delivery) rest) = led m.parameter in
+    let first : StepSeen = goes (said_by_delivery m.parameter delivery) in
+    let l : Led passes old mid (λ t rest. Delivers s.sid m.control m.parameter t first rest) =
+    subst (λ (f : StepSeen). Led passes old mid (λ t rest. Delivers s.sid m.control m.parameter t f rest)) (went-on m.parameter delivery not)
+    (led m.parameter) in
     record {
       asked = l.trace ++ h.asked;
       leads = leads-append passes old mid new l.trace h.asked l.leads h.leads;
-      admits = (delivery_step m.parameter delivery, h.asked, l.admits h.asked, goes-on m.parameter delivery not, h.admits);
+      admits = (joined first h.admits.0, h.admits.1, (first, h.asked, l.admits h.asked, (h.admits.0, h.admits.2, refl)));
     }
 
 -- and before that whether the second channel stands
 pub program-short : {D : Type 0} (passes : D → Entry → D → Type 0) (old mid new : D) (request : SyncRequest) (s : SyncStanding) (m : Message)
     (gate : Option Reply) {X E : Type 0} (r : Result X E)
     → gate ≡ None → Led passes old mid (λ t rest. Attends s.attached s.sid t (gate_step gate) rest)
-    → OnErr r (LedBy passes mid new (λ asked. AttendedShort request (record s { attached = true }) m asked))
-    → OnErr r (LedBy passes old new (λ asked. ServesShort request s m asked))
+    → OnErr r (LedBy passes mid new (λ asked. FallsShort (Attended true request (record s { attached = true }) m) asked))
+    → OnErr r (LedBy passes old new (λ asked. FallsShort (ServesProgram true request s m) asked))
 program-short passes old mid new request s m gate (Ok x) is led h = tt
 program-short passes old mid new request s m gate (Err e) is led h =
     let first : StepSeen = goes [] in
@@ -69,14 +75,17 @@ program-short passes old mid new request s m gate (Err e) is led h =
     record {
       asked = l.trace ++ h.asked;
       leads = leads-append passes old mid new l.trace h.asked l.leads h.leads;
-      admits = (first, h.asked, l.admits h.asked, refl, h.admits);
+      admits = (joined first h.admits.0, h.admits.1, (first, h.asked, l.admits h.asked, (h.admits.0, h.admits.2, refl)));
     }
 
 -- one message
 pub takes-short : {D : Type 0} (passes : D → Entry → D → Type 0) (old new : D) (s : SyncStanding) (m : Message) (request : SyncRequest) {X E : Type 0}
     (r : Result X E)
-    → request ≡ sync_request m.kind → OnErr r (LedBy passes old new (λ asked. ServesShort request s m asked))
+    → request ≡ sync_request m.kind → OnErr r (LedBy passes old new (λ asked. FallsShort (ServesProgram true request s m) asked))
     → OnErr r (LedBy passes old new (λ asked. FaltersSync s m asked))
 takes-short passes old new s m request (Ok x) is h = tt
-takes-short passes old new s m request (Err e) is h =
-    record { asked = h.asked; leads = h.leads; admits = inr (subst (λ (q : SyncRequest). ServesShort q s m h.asked) is h.admits) }
+takes-short passes old new s m request (Err e) is h = record {
+  asked = h.asked;
+  leads = h.leads;
+  admits = inr (subst (λ (q : SyncRequest). FallsShort (ServesProgram true q s m) h.asked) is h.admits);
+}

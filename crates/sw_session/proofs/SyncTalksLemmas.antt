@@ -74,33 +74,33 @@ finishes-none passes d s s' said id all step is became told =
 pub serves-part : {D : Type 0} (passes : D → Entry → D → Type 0) (d : D) (request : SyncRequest) (s s' : SyncStanding) (m : Message)
     (said : List Sent) {E : Type 0} (r : Result StepSeen E)
     → request ≡ Request.Part → IfOk r (λ step. (step ≡ joined (goes said) (goes [])) × (s' ≡ record s { partial = with_part s.partial m.payload }))
-    → IfOk r (λ step. LedBy passes d d (λ asked. SaysMore said step (λ own. Programs request s m asked own s')))
+    → IfOk r (λ step. LedBy passes d d (λ asked. SaysMore said step (λ own. Programs false request s m asked own s')))
 serves-part passes d request s s' m said (Ok step) is h =
     let none : List Entry = [] in
     let own : StepSeen = goes [] in
-    record { asked = []; leads = refl; admits = (own, subst (λ (q : SyncRequest). Programs q s m none own s') (sym is) ((refl, refl), h.1), h.0) }
+    record { asked = []; leads = refl; admits = (own, subst (λ (q : SyncRequest). Programs false q s m none own s') (sym is) ((refl, refl), h.1), h.0) }
 serves-part passes d request s s' m said (Err e) is h = tt
 
 pub serves-end : {D : Type 0} (passes : D → Entry → D → Type 0) (old new : D) (request : SyncRequest) (s s' : SyncStanding) (m : Message)
     (said : List Sent) {E : Type 0} (r : Result StepSeen E)
     → request ≡ Request.End
     → IfOk r (λ step. LedBy passes old new (λ asked. SaysMore said step (λ own. Finishes s m.parameter (whole s.partial m.payload) asked own s')))
-    → IfOk r (λ step. LedBy passes old new (λ asked. SaysMore said step (λ own. Programs request s m asked own s')))
+    → IfOk r (λ step. LedBy passes old new (λ asked. SaysMore said step (λ own. Programs false request s m asked own s')))
 serves-end passes old new request s s' m said r is h =
-    subst (λ (q : SyncRequest). IfOk r (λ step. LedBy passes old new (λ asked. SaysMore said step (λ own. Programs q s m asked own s')))) (sym is) h
+    subst (λ (q : SyncRequest). IfOk r (λ step. LedBy passes old new (λ asked. SaysMore said step (λ own. Programs false q s m asked own s')))) (sym is) h
 
 pub serves-trigger : {D : Type 0} (passes : D → Entry → D → Type 0) (old new : D) (request : SyncRequest) (s s' : SyncStanding) (m : Message) (said : List Sent)
     (step : StepSeen)
     → request ≡ Request.Trigger → LedBy passes old new (λ asked. SaysMore said step (λ own. Triggers (is_within s.partial) s.sid asked own))
     → s' ≡ record s { partial = PartialMessage.Nothing }
-    → LedBy passes old new (λ asked. SaysMore said step (λ own. Programs request s m asked own s'))
+    → LedBy passes old new (λ asked. SaysMore said step (λ own. Programs false request s m asked own s'))
 serves-trigger passes old new request s s' m said step is h became =
     let own : StepSeen = h.admits.0 in
     record {
       asked = h.asked;
       leads = h.leads;
       admits =
-          (own, subst (λ (q : SyncRequest). Programs q s m h.asked own s') (sym is) (h.admits.1, became), h.admits.2);
+          (own, subst (λ (q : SyncRequest). Programs false q s m h.asked own s') (sym is) (h.admits.1, became), h.admits.2);
     }
 
 -- the session is none any more
@@ -109,7 +109,7 @@ pub processes-gone : {D : Type 0} (passes : D → Entry → D → Type 0) (old n
     (step : StepSeen)
     → s' ≡ s → delivery ≡ Delivery.Gone → ((id : ℕ) → Led passes old new (λ t rest. Delivers s.sid m.control id t (delivery_step id delivery) rest))
     → step ≡ over
-    → LedBy passes old new (λ asked. Attended request s m asked step s')
+    → LedBy passes old new (λ asked. Attended false request s m asked step s')
 processes-gone passes old new request s s' m delivery step stays is led told =
     let none : List Entry = [] in
     let l : Led passes old new (λ t rest. Delivers s.sid m.control m.parameter t over rest) =
@@ -122,12 +122,12 @@ processes-gone passes old new request s s' m delivery step stays is led told =
         over,
         none,
         subst (λ (t : List Entry). Delivers s.sid m.control m.parameter t over none) (append-nil l.trace) (l.admits none),
-        ((refl, told), stays),
+        (refl, (refl, told), stays),
       );
     }
 
 -- what the last answer makes be said, and that the channel goes on
-went-on : (id : ℕ) (delivery : Delivery) → (delivery ≡ Delivery.Gone → ⊥) → delivery_step id delivery ≡ goes (said_by_delivery id delivery)
+pub went-on : (id : ℕ) (delivery : Delivery) → (delivery ≡ Delivery.Gone → ⊥) → delivery_step id delivery ≡ goes (said_by_delivery id delivery)
 went-on id Delivery.Quiet not = refl
 went-on id Delivery.Interrupted not = refl
 went-on id Delivery.Gone not = absurd (not refl)
@@ -137,8 +137,8 @@ pub processes-on : {D : Type 0} (passes : D → Entry → D → Type 0) (old mid
     (delivery : Delivery) (said : List Sent) {E : Type 0} (r : Result StepSeen E)
     → (delivery ≡ Delivery.Gone → ⊥) → ((id : ℕ) → Led passes old mid (λ t rest. Delivers s.sid m.control id t (delivery_step id delivery) rest))
     → said ≡ said_by_delivery m.parameter delivery
-    → IfOk r (λ step. LedBy passes mid new (λ asked. SaysMore said step (λ own. Programs request s m asked own s')))
-    → IfOk r (λ step. LedBy passes old new (λ asked. Attended request s m asked step s'))
+    → IfOk r (λ step. LedBy passes mid new (λ asked. SaysMore said step (λ own. Programs false request s m asked own s')))
+    → IfOk r (λ step. LedBy passes old new (λ asked. Attended false request s m asked step s'))
 processes-on passes old mid new request s s' m delivery said (Ok step) not led is h =
     let first : StepSeen = goes said in
     let l : Led passes old mid (λ t rest. Delivers s.sid m.control m.parameter t first rest) =
@@ -156,13 +156,14 @@ pub program-stays : {D : Type 0} (passes : D → Entry → D → Type 0) (old ne
     (gate : Option Reply) (reply : Reply) (step : StepSeen)
     → s' ≡ s → gate ≡ Some reply → Led passes old new (λ t rest. Attends s.attached s.sid t (gate_step gate) rest)
     → IfSome gate (λ r. (reply_step Synchronous r).ends ≡ true) → step ≡ reply_step Synchronous reply
-    → LedBy passes old new (λ asked. ServesProgram request s m asked step s')
+    → LedBy passes old new (λ asked. ServesProgram false request s m asked step s')
 program-stays passes old new request s s' m gate reply step stays is led all told =
     let none : List Entry = [] in
     let first : StepSeen = reply_step Synchronous reply in
+    let short : Bool = false in
     let l : Led passes old new (λ t rest. Attends s.attached s.sid t first rest) =
     subst (λ (g : Option Reply). Led passes old new (λ t rest. Attends s.attached s.sid t (gate_step g) rest)) is led in
-    let On : Type 0 = (second : StepSeen) × Attended request (record s { attached = true }) m none second s' × (step ≡ joined first second) in
+    let On : Type 0 = (second : StepSeen) × Attended false request (record s { attached = true }) m none second s' × (step ≡ joined first second) in
     let ends : first.ends ≡ true = subst (λ (g : Option Reply). IfSome g (λ r. (reply_step Synchronous r).ends ≡ true)) is all in
     record {
       asked = l.trace;
@@ -172,7 +173,7 @@ program-stays passes old new request s s' m gate reply step stays is led all tol
         none,
         subst (λ (t : List Entry). Attends s.attached s.sid t first none) (append-nil l.trace)
             (l.admits none),
-        subst (λ (b : Bool). MatchBool b (Unasked first none step × (s' ≡ s)) On) (sym ends) ((refl, told), stays),
+        subst (λ (b : Bool). MatchBool b ((short ≡ false) × Unasked first none step × (s' ≡ s)) On) (sym ends) (refl, (refl, told), stays),
       );
     }
 
@@ -180,8 +181,8 @@ program-stays passes old new request s s' m gate reply step stays is led all tol
 pub program-on : {D : Type 0} (passes : D → Entry → D → Type 0) (old mid new : D) (request : SyncRequest) (s s' : SyncStanding) (m : Message)
     (gate : Option Reply) {E : Type 0} (r : Result StepSeen E)
     → gate ≡ None → Led passes old mid (λ t rest. Attends s.attached s.sid t (gate_step gate) rest)
-    → IfOk r (λ step. LedBy passes mid new (λ asked. Attended request (record s { attached = true }) m asked step s'))
-    → IfOk r (λ step. LedBy passes old new (λ asked. ServesProgram request s m asked step s'))
+    → IfOk r (λ step. LedBy passes mid new (λ asked. Attended false request (record s { attached = true }) m asked step s'))
+    → IfOk r (λ step. LedBy passes old new (λ asked. ServesProgram false request s m asked step s'))
 program-on passes old mid new request s s' m gate (Ok step) is led h =
     let first : StepSeen = goes [] in
     let l : Led passes old mid (λ t rest. Attends s.attached s.sid t first rest) =
@@ -196,16 +197,16 @@ program-on passes old mid new request s s' m gate (Err e) is led h = tt
 -- one message
 pub takes-program : {D : Type 0} (passes : D → Entry → D → Type 0) (old new : D) (s s' : SyncStanding) (m : Message) (request : SyncRequest) {E : Type 0}
     (r : Result StepSeen E)
-    → request ≡ sync_request m.kind → is_program request ≡ true → IfOk r (λ step. LedBy passes old new (λ asked. ServesProgram request s m asked step s'))
+    → request ≡ sync_request m.kind → is_program request ≡ true → IfOk r (λ step. LedBy passes old new (λ asked. ServesProgram false request s m asked step s'))
     → IfOk r (λ step. LedBy passes old new (λ asked. TakesSync s m asked step s'))
 takes-program passes old new s s' m request (Ok step) is program h =
     let q : SyncRequest = sync_request m.kind in
-    let served : ServesProgram q s m h.asked step s' = subst (λ (o : SyncRequest). ServesProgram o s m h.asked step s') is h.admits in
+    let served : ServesProgram false q s m h.asked step s' = subst (λ (o : SyncRequest). ServesProgram false o s m h.asked step s') is h.admits in
     let yes : is_program q ≡ true = subst (λ (o : SyncRequest). is_program o ≡ true) is program in
     record {
       asked = h.asked;
       leads = h.leads;
-      admits = subst (λ (b : Bool). MatchBool b (ServesProgram q s m h.asked step s')
+      admits = subst (λ (b : Bool). MatchBool b (ServesProgram false q s m h.asked step s')
           (RepliesSync q s h.asked step s')) (sym yes) served;
     }
 takes-program passes old new s s' m request (Err e) is program h = tt
@@ -222,6 +223,6 @@ takes-reply passes old new s s' m request step told is program h same =
     record {
       asked = h.asked;
       leads = h.leads;
-      admits = subst (λ (b : Bool). MatchBool b (ServesProgram q s m h.asked step s')
+      admits = subst (λ (b : Bool). MatchBool b (ServesProgram false q s m h.asked step s')
           (RepliesSync q s h.asked step s')) (sym no) replied;
     }

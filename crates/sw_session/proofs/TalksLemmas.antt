@@ -25,7 +25,8 @@ use Rattle.sw_session.specs.Trace.{Entry, Asked, Waited, Led}
 use Rattle.sw_session.specs.Script.{Ending, Complete, EndsRefused, EndsUnread, IsScript}
 use Rattle.sw_session.specs.Talk.{Queues, Settles, Begins, begun_with, Concludes, ServesUnit, Standing, standing, Proceeds, Way, Talks, Itself, TalksExpansion}
 use Rattle.sw_session.specs.Talk.{IsExpansion}
-use Rattle.sw_session.specs.Talk.{Expanded, TalksUnits, TalksMessage, Talked, Overruns, Spot, stands_at, OnLine, TalksLine, has_answers, answer_line, written}
+use Rattle.sw_session.specs.Talk.{Expanded, TalksUnits, TalksMessage, Talked, Overruns, TalkerStanding, stands_at, OnLine, TalksLine}
+use Rattle.sw_session.specs.Talk.{has_answers, answer_line, written}
 use Rattle.sw_session.specs.Talk.{state, turns}
 use Rattle.sw_session.proofs.LedLemmas.{led-none, led-one, led-so, led-more, led-then}
 
@@ -208,7 +209,7 @@ module _ {D : Type 0} (passes : D → Entry → D → Type 0) (way : Way) (sid :
       (λ t rest so. so [] Complete Goes (told rest) (refl, refl))
 
 -- what goes from line to line is also this
-on-line-so : {D : Type 0} (passes : D → Entry → D → Type 0) (a b : Spot D) (P Q : Standing → Standing → Type 0) → OnLine passes a b P
+on-line-so : {D : Type 0} (passes : D → Entry → D → Type 0) (a b : TalkerStanding D) (P Q : Standing → Standing → Type 0) → OnLine passes a b P
     → ((answers answers' : List (List ℕ)) (t rest : List Entry) → P (stands_at a answers t) (stands_at b answers' rest)
     → Q (stands_at a answers t) (stands_at b answers' rest)) → OnLine passes a b Q
 on-line-so passes a b P Q on so = λ answers written.
@@ -222,7 +223,7 @@ on-line-so passes a b P Q on so = λ answers written.
 
 -- a unit's command or refusal is served below the path that it leaves
 pub itself-served : {D : Type 0} (passes : D → Entry → D
-    → Type 0) (a b : Spot D) (sid : Sid) (u : UnitSeen) (command : Result Command ScpiError) (after : AfterUnit)
+    → Type 0) (a b : TalkerStanding D) (sid : Sid) (u : UnitSeen) (command : Result Command ScpiError) (after : AfterUnit)
     → Resolves u a.path command b.path → OnLine passes (record a { path = b.path }) b (λ s s'. ServesUnit sid command s after s')
     → OnLine passes a b (λ s s'. Itself sid u s after s')
 itself-served passes a b sid u command after r on = λ answers written.
@@ -241,7 +242,8 @@ expands c sid u s s' after is m =
     × TalksExpansion sid r s after s') (Itself sid u s after s')) (sym is) m
 
 -- a unit that calls no macro is itself
-pub expanded-itself : {D : Type 0} (passes : D → Entry → D → Type 0) (a b : Spot D) (sid : Sid) (u : UnitSeen) (after : AfterUnit) → calls a.macros u ≡ false
+pub expanded-itself : {D : Type 0} (passes : D → Entry → D → Type 0) (a b : TalkerStanding D) (sid : Sid) (u : UnitSeen) (after : AfterUnit)
+    → calls a.macros u ≡ false
     → OnLine passes a b (λ s s'. Itself sid u s after s') → OnLine passes a b (λ s s'. Expanded sid u s after s')
 expanded-itself passes a b sid u after is on =
     on-line-so passes a b (λ s s'. Itself sid u s after s') (λ s s'. Expanded sid u s after s') on
@@ -253,7 +255,7 @@ fault-expands t u written e (inl lost) = inr (ap (λ (x : ScpiError). Err x) los
 fault-expands t u written e (inr so) = inl (written, so)
 
 -- the units of an expansion stand in a unit's place
-pub expanded-units : {D : Type 0} (passes : D → Entry → D → Type 0) (a b : Spot D) (sid : Sid) (u : UnitSeen) (text : List ℕ) (after : AfterUnit)
+pub expanded-units : {D : Type 0} (passes : D → Entry → D → Type 0) (a b : TalkerStanding D) (sid : Sid) (u : UnitSeen) (text : List ℕ) (after : AfterUnit)
     → calls a.macros u ≡ true
     → IsExpansion a.macros u (Ok text) → TalksLine (Itself sid) passes sid text a after b → OnLine passes a b (λ s s'. Expanded sid u s after s')
 expanded-units passes a b sid u text after is x talks = λ answers written.
@@ -266,7 +268,7 @@ expanded-units passes a b sid u text after is x talks = λ answers written.
     )
 
 -- the fault of an expansion is queued
-pub expanded-fault : {D : Type 0} (passes : D → Entry → D → Type 0) (a b : Spot D) (sid : Sid) (u : UnitSeen) (e : ScpiError) (after : AfterUnit)
+pub expanded-fault : {D : Type 0} (passes : D → Entry → D → Type 0) (a b : TalkerStanding D) (sid : Sid) (u : UnitSeen) (e : ScpiError) (after : AfterUnit)
     → calls a.macros u ≡ true
     → IsExpansion a.macros u (Err e) → OnLine passes a b (λ s s'. ServesUnit sid (Err e) s after s') → OnLine passes a b (λ s s'. Expanded sid u s after s')
 expanded-fault passes a b sid u e after is x on =

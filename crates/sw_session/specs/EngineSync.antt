@@ -218,59 +218,46 @@ is_program Request.End = true
 is_program Request.Trigger = true
 is_program request = false
 
--- what each of these messages does once that was done
-abbrev pub Programs : SyncRequest → SyncStanding → Message → List Entry → StepSeen → SyncStanding → Type 0
-Programs Request.Part s m asked step s' = Unasked (goes []) asked step
+-- What each of these messages does once that was done. Short of memory a part of a program message asks nothing, and no
+-- more is said of it.
+abbrev pub Programs : Bool → SyncRequest → SyncStanding → Message → List Entry → StepSeen → SyncStanding → Type 0
+Programs false Request.Part s m asked step s' = Unasked (goes []) asked step
     × (s' ≡ record s { partial = with_part s.partial m.payload })
-Programs Request.End s m asked step s' = Finishes s m.parameter (whole s.partial m.payload) asked step s'
-Programs Request.Trigger s m asked step s' = Triggers (is_within s.partial) s.sid asked step
+Programs false Request.End s m asked step s' = Finishes s m.parameter (whole s.partial m.payload) asked step s'
+Programs false Request.Trigger s m asked step s' = Triggers (is_within s.partial) s.sid asked step
     × (s' ≡ record s { partial = PartialMessage.Nothing })
-Programs request s m asked step s' = ⊥
+Programs true Request.Part s m asked step s' = asked ≡ []
+Programs true Request.End s m asked step s' = asked ≡ []
+Programs short request s m asked step s' = ⊥
 
 -- this is said, and then more, which comes from this; the channel ends as that says
 abbrev pub SaysMore : List Sent → StepSeen → (StepSeen → Type 0) → Type 0
 SaysMore said step P = (own : StepSeen) × P own × (step ≡ joined (goes said) own)
 
--- a part of a row, and what follows it unless it ends the channel; what both say is said
-abbrev pub Onward : (List Entry → StepSeen → SyncStanding → Type 0) → StepSeen → SyncStanding → List Entry → StepSeen →
-    SyncStanding
-    → Type 0
-Onward next first s asked step s' =
-    MatchBool first.ends (Unasked first asked step × (s' ≡ s))
+-- A part of a row, and what follows it unless it ends the channel; what both say is said. Where memory runs out in what
+-- follows, the part has not ended the channel.
+abbrev pub Onward : Bool → (List Entry → StepSeen → SyncStanding → Type 0) → StepSeen → SyncStanding → List Entry
+    → StepSeen → SyncStanding → Type 0
+Onward short next first s asked step s' =
+    MatchBool first.ends ((short ≡ false) × Unasked first asked step × (s' ≡ s))
     ((second : StepSeen) × next asked second s' × (step ≡ joined first second))
 
 -- Data, DataEnd and Trigger: the second channel has to stand, then the last answer is looked at, then the message is
--- served
-abbrev pub Attended : SyncRequest → SyncStanding → Message → List Entry → StepSeen → SyncStanding → Type 0
-Attended request s m asked step s' =
+-- served, unless memory runs out there
+abbrev pub Attended : Bool → SyncRequest → SyncStanding → Message → List Entry → StepSeen → SyncStanding → Type 0
+Attended short request s m asked step s' =
     (first : StepSeen) × (rest : List Entry) × Delivers s.sid m.control m.parameter asked first rest
-    × Onward (λ calls said t. Programs request s m calls said t) first s rest step s'
+    × Onward short (λ calls said t. Programs short request s m calls said t) first s rest step s'
 
-abbrev pub ServesProgram : SyncRequest → SyncStanding → Message → List Entry → StepSeen → SyncStanding → Type 0
-ServesProgram request s m asked step s' =
+abbrev pub ServesProgram : Bool → SyncRequest → SyncStanding → Message → List Entry → StepSeen → SyncStanding → Type 0
+ServesProgram short request s m asked step s' =
     (first : StepSeen) × (rest : List Entry) × Attends s.attached s.sid asked first rest
-    × Onward (λ calls said t. Attended request (record s { attached = true }) m calls said t) first s rest step s'
+    × Onward short (λ calls said t. Attended short request (record s { attached = true }) m calls said t) first s rest
+    step s'
 
--- ---- want of memory at a message of a program
-
--- what each of these messages asks by itself: a part of a program message that finds no memory, nothing
-abbrev pub ProgramsShort : SyncRequest → SyncStanding → Message → List Entry → Type 0
-ProgramsShort Request.Part s m asked = asked ≡ []
-ProgramsShort Request.End s m asked = asked ≡ []
-ProgramsShort request s m asked = ⊥
-
--- before that the last answer was looked at, and before that whether the second channel stands; neither ended the
--- channel
-abbrev pub AttendedShort : SyncRequest → SyncStanding → Message → List Entry → Type 0
-AttendedShort request s m asked =
-    (first : StepSeen) × (rest : List Entry) × Delivers s.sid m.control m.parameter asked first rest ×
-    (first.ends ≡ false)
-    × ProgramsShort request s m rest
-
-abbrev pub ServesShort : SyncRequest → SyncStanding → Message → List Entry → Type 0
-ServesShort request s m asked =
-    (first : StepSeen) × (rest : List Entry) × Attends s.attached s.sid asked first rest × (first.ends ≡ false)
-    × AttendedShort request (record s { attached = true }) m rest
+-- this is asked by a row in which memory ran out
+abbrev pub FallsShort : (List Entry → StepSeen → SyncStanding → Type 0) → List Entry → Type 0
+FallsShort row asked = (step : StepSeen) × (s' : SyncStanding) × row asked step s'
 
 -- ---- all messages after the first
 
@@ -299,7 +286,7 @@ RepliesSync request s asked step s' = ⊥
 
 abbrev pub TakesSyncBy : SyncRequest → SyncStanding → Message → List Entry → StepSeen → SyncStanding → Type 0
 TakesSyncBy request s m asked step s' =
-    MatchBool (is_program request) (ServesProgram request s m asked step s') (RepliesSync request s asked step s')
+    MatchBool (is_program request) (ServesProgram false request s m asked step s') (RepliesSync request s asked step s')
 
 -- one message of the synchronous channel
 abbrev pub TakesSync : SyncStanding → Message → List Entry → StepSeen → SyncStanding → Type 0
@@ -308,7 +295,7 @@ TakesSync s m asked step s' = TakesSyncBy (sync_request m.kind) s m asked step s
 -- A message that found no memory has asked a front of what its row asks: nothing, or what a message of a program asks
 -- up to where memory ran out.
 abbrev pub FaltersSync : SyncStanding → Message → List Entry → Type 0
-FaltersSync s m asked = (asked ≡ []) ⊎ ServesShort (sync_request m.kind) s m asked
+FaltersSync s m asked = (asked ≡ []) ⊎ FallsShort (ServesProgram true (sync_request m.kind) s m) asked
 
 -- ---- messages that were skipped for their size
 

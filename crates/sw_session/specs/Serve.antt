@@ -12,7 +12,6 @@ use Rattle.sw_hislip.specs.Stream.{Call, Decodes, stream_of, told, Follows, IsSt
 use Rattle.sw_core.specs.declared.ask.Sid.{Sid}
 use Rattle.sw_core.specs.declared.ask.SessionAsk.TheVariants as Ask
 use Rattle.sw_core.specs.declared.ask.SessionAnswer.{SessionAnswer}
-use Rattle.sw_session.specs.declared.engine.step.Channel.{Channel}
 use Rattle.sw_session.specs.declared.engine.step.Sent.{Sent}
 use Rattle.sw_session.specs.Said.{StepSeen, is_fatal}
 use Rattle.sw_session.specs.declared.servers.act.Act.{Act}
@@ -28,24 +27,8 @@ use Rattle.sw_session.specs.declared.servers.turns.Next.TheVariants.{On, Over}
 use Rattle.sw_session.specs.Trace.{Entry, Asked, Leads}
 use Rattle.sw_session.specs.ServeRead.{PausesBy}
 use Rattle.sw_session.specs.ServeWrite.{wire_on, wire_off}
-use Rattle.sw_session.specs.ServeHand.{availability_notes, HandsUpTo, manner, outlets}
-
--- An engine's definition: what it asks and says to an act, and where it stands then; what it may have asked, and where
--- it may stand, where it found no memory; and which session it has joined.
-pub record Protocol (E : Type 0) : Type 1 where
-  pub speaks : E → Act → List Entry → StepSeen → E → Type 0
-  pub falters : E → Act → List Entry → E → Type 0
-  pub session : E → Option Sid
-
--- What one channel's server stands on: the engine's definition, what passes between it and its desk, and which channel
--- it serves.
-pub record Voice (E D : Type 0) : Type 1 where
-  pub protocol : Protocol E
-  pub passes : D → Entry → D → Type 0
-  pub own : Channel
-
-abbrev pub voice : {E D : Type 0} → Protocol E → (D → Entry → D → Type 0) → Channel → Voice E D
-voice v passes own = record { protocol = v; passes = passes; own = own }
+use Rattle.sw_session.specs.ServePoint.{Protocol, Voice, Point, point}
+use Rattle.sw_session.specs.ServeHand.{availability_notes, HandsUpTo}
 
 -- ---- acts
 
@@ -127,16 +110,6 @@ asks_of xs = flat_map (λ (x : Exchange). x.asked ++ x.noted) xs
 abbrev pub said_of : List Exchange → List Sent
 said_of xs = flat_map (λ (x : Exchange). x.step.out) xs
 
--- where a server stands: its engine, its desk, and what its two writers hold
-pub record Point (E D : Type 0) : Type 0 where
-  pub engine : E
-  pub desk : D
-  pub main : Option (List ℕ)
-  pub side : Option (List ℕ)
-
-abbrev pub point : {E D : Type 0} → E → D → Option (List ℕ) → Option (List ℕ) → Point E D
-point s d w x = record { engine = s; desk = d; main = w; side = x }
-
 -- The engine's definition of these exchanges is what was asked, and what the writers got.
 pub record Spoken {E D : Type 0} (u : Voice E D) (a b : Point E D) (xs : List Exchange) (after : AfterStep)
     : Type 0 where
@@ -151,11 +124,11 @@ pub record Spoken {E D : Type 0} (u : Voice E D) (a b : Point E D) (xs : List Ex
 pub record IsCutOff {E D : Type 0} (u : Voice E D) (a b : Point E D) (act : Act) (fault : ServeFault) : Type 0 where
   pub asked : List Entry
   pub step : StepSeen
-  pub speaks : u.protocol.speaks a.engine act asked step b.engine
+  pub engine : E
+  pub speaks : u.protocol.speaks a.engine act asked step engine
   pub desk : D
   pub asks : Leads u.passes a.desk asked desk
-  pub cut : HandsUpTo (manner u.passes (u.protocol.session b.engine) u.own) (outlets desk a.main a.side)
-      (outlets b.desk b.main b.side) step.out fault
+  pub cut : HandsUpTo u (point engine desk a.main a.side) b step.out fault
 
 -- there was no memory for an act
 pub record IsStarved {E D : Type 0} (u : Voice E D) (a b : Point E D) (act : Act) : Type 0 where

@@ -15,7 +15,8 @@ use Rattle.sw_session.specs.EngineStep.{goes, says, fails, Unasked}
 use Rattle.sw_session.specs.Engine.{EngineStanding, fresh_engine, TakesMessage, Falters, session_of, channel_of_state}
 use Rattle.sw_session.specs.Engine.{too_large, skips}
 use Rattle.sw_session.specs.Engine.{notice_from, noticed_from}
-use Rattle.sw_session.specs.Serve.{Protocol, voice, Course, course, ServesAndLeaves, point}
+use Rattle.sw_session.specs.ServePoint.{Protocol, voice, point}
+use Rattle.sw_session.specs.Serve.{Course, course, ServesAndLeaves}
 
 -- a service request that is told, if any
 abbrev pub told_step : Option Message → StepSeen

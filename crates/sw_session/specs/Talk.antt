@@ -277,30 +277,30 @@ pub record Talked {D : Type 0} (passes : D → Entry → D → Type 0) (sid : Si
 -- The clauses of the talker's parts.
 
 -- where a talker stands: its desk, the path, its macros, and the line that is written so far
-pub record Spot (D : Type 0) : Type 0 where
+pub record TalkerStanding (D : Type 0) : Type 0 where
   pub desk : D
   pub path : Nodes
   pub macros : Table
   pub line : List ℕ
 
-abbrev pub spot : {D : Type 0} → D → Nodes → Table → List ℕ → Spot D
-spot desk path macros line = record { desk = desk; path = path; macros = macros; line = line }
+abbrev pub talker_at : {D : Type 0} → D → Nodes → Table → List ℕ → TalkerStanding D
+talker_at desk path macros line = record { desk = desk; path = path; macros = macros; line = line }
 
--- where the session stands at a spot with these answers and this trace
-abbrev pub stands_at : {D : Type 0} → Spot D → List (List ℕ) → List Entry → Standing
+-- where its session stands with these answers and this trace
+abbrev pub stands_at : {D : Type 0} → TalkerStanding D → List (List ℕ) → List Entry → Standing
 stands_at p answers trace = standing p.path p.macros answers trace
 
 -- a part goes from answers that are written to answers that are written
-abbrev pub OnLine : {D : Type 0} → (D → Entry → D → Type 0) → Spot D → Spot D → (Standing → Standing → Type 0)
-    → Type 0
+abbrev pub OnLine : {D : Type 0} → (D → Entry → D → Type 0) → TalkerStanding D → TalkerStanding D
+    → (Standing → Standing → Type 0) → Type 0
 OnLine passes a b part =
     (answers : List (List ℕ)) → a.line ≡ answer_line answers
     → (answers' : List (List ℕ)) × (b.line ≡ answer_line answers')
     × Led passes a.desk b.desk (λ trace rest. part (stands_at a answers trace) (stands_at b answers' rest))
 
 -- the units of a text are talked over in this way
-abbrev pub TalksLine : {D : Type 0} → Way → (D → Entry → D → Type 0) → Sid → List ℕ → Spot D → AfterUnit → Spot D
-    → Type 0
+abbrev pub TalksLine : {D : Type 0} → Way → (D → Entry → D → Type 0) → Sid → List ℕ → TalkerStanding D → AfterUnit
+    → TalkerStanding D → Type 0
 TalksLine way passes sid text a after b =
     (answers : List (List ℕ)) → a.line ≡ answer_line answers
     → (units : List UnitSeen) × (ending : Ending) × (answers' : List (List ℕ))
@@ -308,17 +308,9 @@ TalksLine way passes sid text a after b =
     × Led passes a.desk b.desk
     (λ trace rest. Talks way sid units ending (stands_at a answers trace) after (stands_at b answers' rest))
 
--- a desk, and the line that is written so far
-pub record WrittenLine (D : Type 0) : Type 0 where
-  pub desk : D
-  pub line : List ℕ
-
-abbrev pub written_at : {D : Type 0} → D → List ℕ → WrittenLine D
-written_at desk line = record { desk = desk; line = line }
-
 -- an answer is taken
-abbrev pub ConcludesLine : {D : Type 0} → (D → Entry → D → Type 0) → Sid → SessionAnswer → WrittenLine D → AfterUnit
-    → WrittenLine D → Type 0
+abbrev pub ConcludesLine : {D : Type 0} → (D → Entry → D → Type 0) → Sid → SessionAnswer → TalkerStanding D → AfterUnit
+    → TalkerStanding D → Type 0
 ConcludesLine passes sid answer a after b =
     (answers : List (List ℕ)) → a.line ≡ answer_line answers
     → (answers' : List (List ℕ)) × (b.line ≡ answer_line answers')

@@ -4,9 +4,9 @@ ghost use Rattle.std.specs.Prelude.{◌≡◌, [], Ok, Err, true, false};
 ghost use Rattle.std.specs.Io.BufRead.{strip_last};
 ghost use Rattle.sw_lex.specs.Unit.{unit_of};
 ghost use Rattle.sw_lex.specs.Meaning.{Nodes, path_of};
-ghost use Rattle.sw_macro.specs.Table.{no_macros};
+ghost use Rattle.sw_macro.specs.Table.{Table, no_macros};
 ghost use Rattle.sw_session.specs.Talk.{Talked, TalksLine, OnLine, Itself, Expanded, ServesUnit, ConcludesLine};
-ghost use Rattle.sw_session.specs.Talk.{state, spot, written_at, after_unit, is_command_error, TellsAnswered, is_own};
+ghost use Rattle.sw_session.specs.Talk.{state, talker_at, after_unit, is_command_error, TellsAnswered, is_own};
 
 use crate::asking::{ask_command, carry_own, is_own, queue};
 use crate::desk::Desk;
@@ -79,8 +79,8 @@ impl Talker {
         out: &mut Vec<u8>,
     ) -> AfterUnit
         ensures talks { TalksLine (W.way self.old.sid) D.passes self.old.sid text.now
-            (spot desk.old (path_of path.old) self.old.macros out.old.items)
-            result (spot desk.new (path_of path.new) self.new.macros out.new.items) }
+            (talker_at desk.old (path_of path.old) self.old.macros out.old.items)
+            result (talker_at desk.new (path_of path.new) self.new.macros out.new.items) }
         ensures same { self.new.sid ≡ self.old.sid }
     {
         let mut room = Elements::new();
@@ -109,8 +109,8 @@ impl Talker {
         out: &mut Vec<u8>,
     ) -> AfterUnit
         ensures talks { TalksLine (Itself self.old.sid) D.passes self.old.sid self.old.expansion.items
-            (spot desk.old (path_of path.old) self.old.macros out.old.items)
-            result (spot desk.new (path_of path.new) self.new.macros out.new.items) }
+            (talker_at desk.old (path_of path.old) self.old.macros out.old.items)
+            result (talker_at desk.new (path_of path.new) self.new.macros out.new.items) }
         ensures same { self.new.sid ≡ self.old.sid }
     {
         let text = mem::replace(&mut self.expansion, Vec::new(self.alloc));
@@ -128,8 +128,8 @@ impl Talker {
         out: &mut Vec<u8>,
     ) -> AfterUnit
         ensures unit { OnLine D.passes
-            (spot desk.old (path_of path.old) self.old.macros out.old.items)
-            (spot desk.new (path_of path.new) self.new.macros out.new.items)
+            (talker_at desk.old (path_of path.old) self.old.macros out.old.items)
+            (talker_at desk.new (path_of path.new) self.new.macros out.new.items)
             (λ s s'. Itself self.old.sid (unit_of unit.now) s result s') }
         ensures same { self.new.sid ≡ self.old.sid }
     {
@@ -146,8 +146,8 @@ impl Talker {
         out: &mut Vec<u8>,
     ) -> AfterUnit
         ensures serves { (path : Nodes) → OnLine D.passes
-            (spot desk.old path self.old.macros out.old.items)
-            (spot desk.new path self.new.macros out.new.items)
+            (talker_at desk.old path self.old.macros out.old.items)
+            (talker_at desk.new path self.new.macros out.new.items)
             (λ s s'. ServesUnit self.old.sid command s result s') }
         ensures same { self.new.sid ≡ self.old.sid }
     {
@@ -173,8 +173,8 @@ impl Talker {
     ) -> AfterUnit
         requires { is_own command ≡ false }
         ensures serves { (path : Nodes) → OnLine D.passes
-            (spot desk.old path self.old.macros out.old.items)
-            (spot desk.new path self.new.macros out.new.items)
+            (talker_at desk.old path self.old.macros out.old.items)
+            (talker_at desk.new path self.new.macros out.new.items)
             (λ s s'. ServesUnit self.old.sid (Ok command) s result s') }
         ensures same { self.new.sid ≡ self.old.sid }
     {
@@ -188,8 +188,8 @@ impl Talker {
     fn serve_own<D: Desk>(&mut self, desk: &mut D, command: Command, out: &mut Vec<u8>) -> AfterUnit
         requires { is_own command ≡ true }
         ensures serves { (path : Nodes) → OnLine D.passes
-            (spot desk.old path self.old.macros out.old.items)
-            (spot desk.new path self.new.macros out.new.items)
+            (talker_at desk.old path self.old.macros out.old.items)
+            (talker_at desk.new path self.new.macros out.new.items)
             (λ s s'. ServesUnit self.old.sid (Ok command) s result s') }
         ensures same { self.new.sid ≡ self.old.sid }
     {
@@ -214,8 +214,8 @@ impl Talker {
         out: &mut Vec<u8>,
     ) -> AfterUnit
         ensures serves { (path : Nodes) → OnLine D.passes
-            (spot desk.old path self.old.macros out.old.items)
-            (spot desk.new path self.new.macros out.new.items)
+            (talker_at desk.old path self.old.macros out.old.items)
+            (talker_at desk.new path self.new.macros out.new.items)
             (λ s s'. ServesUnit self.old.sid (Err error) s result s') }
         ensures same { self.new.sid ≡ self.old.sid }
     {
@@ -230,7 +230,7 @@ trait Way {
     ghost use Rattle.sw_lex.specs.Unit.{unit_of};
     ghost use Rattle.sw_lex.specs.Meaning.{path_of};
     ghost use Rattle.sw_core.specs.declared.ask.Sid.{Sid};
-    ghost use Rattle.sw_session.specs.Talk.{OnLine, spot, Way};
+    ghost use Rattle.sw_session.specs.Talk.{OnLine, talker_at, Way};
 
     /// The way by its definition.
     ghost way: { Sid → Way };
@@ -244,8 +244,8 @@ trait Way {
         out: &mut Vec<u8>,
     ) -> AfterUnit
         ensures unit { OnLine D.passes
-            (spot desk.old (path_of path.old) talker.old.macros out.old.items)
-            (spot desk.new (path_of path.new) talker.new.macros out.new.items)
+            (talker_at desk.old (path_of path.old) talker.old.macros out.old.items)
+            (talker_at desk.new (path_of path.new) talker.new.macros out.new.items)
             (λ s s'. way talker.old.sid (unit_of unit.now) s result s') }
         ensures same { talker.new.sid ≡ talker.old.sid };
 }
@@ -328,8 +328,8 @@ fn has_answers(out: &[u8]) -> bool
 /// error queued.
 #[inline(always)]
 fn conclude<D: Desk>(desk: &mut D, sid: Sid, answer: SessionAnswer, out: &mut Vec<u8>) -> AfterUnit
-    ensures { ConcludesLine D.passes sid answer
-        (written_at desk.old out.old.items) result (written_at desk.new out.new.items) }
+    ensures { (path : Nodes) (macros : Table) → ConcludesLine D.passes sid answer
+        (talker_at desk.old path macros out.old.items) result (talker_at desk.new path macros out.new.items) }
 {
     match answer {
         SessionAnswer::Done(None) => AfterUnit::Goes,

@@ -6,6 +6,7 @@ ghost use Rattle.sw_session.specs.InParts.{parts_of, GivesFirst};
 
 use std::alloc::{AllocError, Global};
 use std::marker::Model;
+use std::mem;
 use sw_base::Sequence;
 use sw_hislip::{Kind, LONGEST_PAYLOAD, Message};
 
@@ -61,7 +62,7 @@ impl Parts {
         }
     }
 
-    /// The next part. Only want of memory is refused.
+    /// The next part. Only want of memory is refused. An answer that is one part is given as it is, and not copied.
     pub fn next(&mut self, alloc: Global) -> Result<Option<Message>, AllocError>
         ensures { GivesFirst self.old result self.new }
     {
@@ -74,6 +75,11 @@ impl Parts {
             self.given += self.room;
             return Ok(Some(message));
         }
+        if self.given == 0 {
+            self.is_over = true;
+            let answer = mem::replace(&mut self.answer, Vec::new(alloc));
+            return Ok(Some(holding(Kind::DataEnd, self.id, answer)));
+        }
         let message = part(alloc, Kind::DataEnd, self.id, left)?;
         self.is_over = true;
         Ok(Some(message))
@@ -84,11 +90,17 @@ impl Parts {
 fn part(alloc: Global, kind: Kind, id: u32, bytes: &[u8]) -> Result<Message, AllocError>
     ensures { IfOk result (λ m. m ≡ part kind id bytes.now) }
 {
-    let payload = Sequence::new(Vec::from_slice(alloc, bytes)?);
-    Ok(Message {
+    Ok(holding(kind, id, Vec::from_slice(alloc, bytes)?))
+}
+
+/// A part that is these bytes.
+fn holding(kind: Kind, id: u32, bytes: Vec<u8>) -> Message
+    ensures { result ≡ part kind id bytes.items }
+{
+    Message {
         kind,
         control: 0,
         parameter: id,
-        payload,
-    })
+        payload: Sequence::new(bytes),
+    }
 }

@@ -10,8 +10,7 @@ ghost use Rattle.sw_session.specs.EngineSync.{Finishes, Converses, Answers, Cuts
 ghost use Rattle.sw_session.specs.EngineSync.{SaysMore};
 ghost use Rattle.sw_session.specs.EngineSync.{is_program};
 ghost use Rattle.sw_session.specs.EngineKinds.{sync_request};
-ghost use Rattle.sw_session.specs.EngineSync.{ProgramsShort, AttendedShort};
-ghost use Rattle.sw_session.specs.EngineSync.{ServesShort, FaltersSync};
+ghost use Rattle.sw_session.specs.EngineSync.{FallsShort, FaltersSync};
 ghost use Rattle.sw_session.specs.declared.engine.step.Channel.TheVariants.{Synchronous};
 
 use crate::desk::Desk;
@@ -146,9 +145,9 @@ impl SyncSession {
         requires empty { room.items ≡ [] }
         requires room { 2 ≤ vec_capacity room }
         ensures ok { IfOk result (λ step. LedBy D.passes desk.old desk.new (λ asked.
-            ServesProgram request self.old message asked step self.new)) }
+            ServesProgram false request self.old message asked step self.new)) }
         ensures err { OnErr result (LedBy D.passes desk.old desk.new (λ asked.
-            ServesShort request self.old message asked)) }
+            FallsShort (ServesProgram true request self.old message) asked)) }
         ensures same { self.new.sid ≡ self.old.sid }
     {
         match attend(self.sid, self.attached, desk) {
@@ -176,9 +175,9 @@ impl SyncSession {
         requires empty { room.items ≡ [] }
         requires room { 2 ≤ vec_capacity room }
         ensures ok { IfOk result (λ step. LedBy D.passes desk.old desk.new (λ asked.
-            Attended request self.old message asked step self.new)) }
+            Attended false request self.old message asked step self.new)) }
         ensures err { OnErr result (LedBy D.passes desk.old desk.new (λ asked.
-            AttendedShort request self.old message asked)) }
+            FallsShort (Attended true request self.old message) asked)) }
         ensures same { self.new.sid ≡ self.old.sid }
     {
         match deliver(self.sid, message.control, desk) {
@@ -204,9 +203,9 @@ impl SyncSession {
     ) -> Result<Step, AllocError>
         requires { is_program request ≡ true }
         ensures ok { IfOk result (λ step. LedBy D.passes desk.old desk.new (λ asked.
-            SaysMore said.items step (λ own. Programs request self.old message asked own self.new))) }
+            SaysMore said.items step (λ own. Programs false request self.old message asked own self.new))) }
         ensures err { OnErr result (LedBy D.passes desk.old desk.new (λ asked.
-            ProgramsShort request self.old message asked)) }
+            FallsShort (Programs true request self.old message) asked)) }
         ensures same { self.new.sid ≡ self.old.sid }
     {
         match request {

@@ -1,16 +1,20 @@
 //! The server of one channel of a session.
 
+ghost use Rattle.std.specs.Prelude.{◌≡◌};
+ghost use Rattle.sw_session.specs.Engine.{session_of};
 ghost use Rattle.sw_session.specs.Serve.{LeavesSession};
+ghost use Rattle.sw_session.specs.Server.{StaysServer};
 ghost use Rattle.sw_session.specs.ServeConnection.{ServesConnection, connected, wiring};
 
 use crate::desk::Desk;
 use crate::engine::{Channel, Engine};
+use crate::servers::channel_server::ChannelServer;
 use crate::servers::fault::ServeFault;
 use crate::servers::source::Source;
-use crate::servers::turns::run;
 use crate::servers::writing::Sink;
 use std::alloc::Global;
-use sw_core::{SessionAsk, Sid};
+use sw_core::SessionAsk;
+use sw_hislip::Decoder;
 
 /// Serves one channel of a session over its connection (IVI-6.1 HiSLIP, synchronized mode): reads until the end of
 /// input, the end of the session or a fault, for so many reads at most, and leaves the session then. What is said on
@@ -30,17 +34,18 @@ pub fn serve_channel<R: Source, W: Sink, S: Sink, D: Desk>(
         result }
 {
     let mut engine = Engine::new(alloc, channel);
-    let result = run(
+    let mut decoder = Decoder::new(alloc);
+    let mut server = ChannelServer {
         alloc,
-        channel,
-        &mut engine,
-        reader,
+        own: channel,
+        engine: &mut engine,
+        decoder: &mut decoder,
         writer,
         side,
         desk,
-        turns,
-    );
-    leave(engine.session(), desk);
+    };
+    let result = server.run(reader, turns);
+    server.leave();
     result
 }
 
@@ -92,11 +97,18 @@ pub fn serve_async<R: Source, W: Sink, S: Sink, D: Desk>(
     )
 }
 
-/// Leaves the session that was joined.
-fn leave<D: Desk>(sid: Option<Sid>, desk: &mut D)
-    ensures { LeavesSession D.passes sid desk.old desk.new }
-{
-    if let Some(sid) = sid {
-        drop(desk.ask(SessionAsk::Leave(sid)));
+impl<W: Sink, S: Sink, D: Desk> ChannelServer<'_, '_, '_, '_, W, S, D> {
+    /// Leaves the session that was joined.
+    fn leave(&mut self)
+        ensures leaves { LeavesSession D.passes (session_of self.old.engine.now.state) self.old.desk.now
+            self.new.desk.now }
+        ensures engine { self.new.engine ≡ self.old.engine }
+        ensures writer { self.new.writer ≡ self.old.writer }
+        ensures side { self.new.side ≡ self.old.side }
+        ensures stays { StaysServer self.old self.new }
+    {
+        if let Some(sid) = self.engine.session() {
+            drop(self.desk.ask(SessionAsk::Leave(sid)));
+        }
     }
 }

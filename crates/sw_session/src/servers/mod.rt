@@ -2,6 +2,7 @@
 
 mod act;
 mod channel;
+mod channel_server;
 mod fault;
 mod processing;
 mod sending;

@@ -1,17 +1,16 @@
 //! One channel over a reader, two writers and a desk.
 
-ghost use Rattle.std.specs.Prelude.{◌≡◌, ◌⊎◌, Ok, Err};
-ghost use Rattle.sw_hislip.specs.Pending.{Waits};
+ghost use Rattle.std.specs.Prelude.{◌≡◌, Ok, Err};
+ghost use Rattle.sw_hislip.specs.Pending.{Waits, nothing_fed};
 ghost use Rattle.sw_session.specs.ServeRead.{IsLedTo};
 ghost use Rattle.sw_session.specs.Serve.{Listens, CountsReceived, NextInput, HearsAll, TakesServerTurn, RunsChannel};
-ghost use Rattle.sw_session.specs.Serve.{voice, point, course, conclude};
-ghost use Rattle.sw_session.specs.ServeEngine.{engine_protocol};
+ghost use Rattle.sw_session.specs.Serve.{conclude};
+ghost use Rattle.sw_session.specs.Server.{voice_of, stands, stands_by, StaysServer, WriteFails};
 
 use crate::desk::Desk;
-use crate::engine::{Channel, Engine};
 use crate::servers::act::{Act, AfterStep, goes_on};
+use crate::servers::channel_server::ChannelServer;
 use crate::servers::fault::ServeFault;
-use crate::servers::processing::attend;
 use crate::servers::source::{Source, Unread};
 use crate::servers::writing::Sink;
 use std::alloc::Global;
@@ -82,103 +81,64 @@ fn next_input(alloc: Global, decoder: &mut Decoder) -> Result<Option<Act>, Serve
     }
 }
 
-/// Goes through all whole messages, or those up to one that ends the channel.
-fn process_all<W: Sink, S: Sink, D: Desk>(
-    alloc: Global,
-    own: Channel,
-    decoder: &mut Decoder,
-    engine: &mut Engine,
-    writer: &mut W,
-    side: &mut S,
-    desk: &mut D,
-) -> Result<AfterStep, ServeFault>
-    ensures processed { HearsAll (voice engine_protocol D.passes own) decoder.old.pending decoder.new.pending
-        (point engine.old desk.old (W.contents writer.old) (S.contents side.old))
-        (point engine.new desk.new (W.contents writer.new) (S.contents side.new)) result }
-    ensures write { result ≡ Err ServeFault.Write → IsLedTo W.failed writer.new ⊎ IsLedTo S.failed side.new }
-{
-    loop {
-        let input = match next_input(alloc, decoder) {
-            Ok(Some(input)) => input,
-            Ok(None) => return Ok(AfterStep::Goes),
-            Err(fault) => return Err(fault),
-        };
-        let processed = attend(alloc, own, input, engine, writer, side, desk);
-        if !goes_on(processed) {
-            return processed;
+impl<W: Sink, S: Sink, D: Desk> ChannelServer<'_, '_, '_, '_, W, S, D> {
+    /// Goes through all whole messages, or those up to one that ends the channel.
+    fn process_all(&mut self) -> Result<AfterStep, ServeFault>
+        ensures processed { HearsAll (voice_of D.passes self.old) self.old.decoder.now.pending
+            self.new.decoder.now.pending (stands W.Sink S.Sink self.old) (stands W.Sink S.Sink self.new) result }
+        ensures write { result ≡ Err ServeFault.Write → WriteFails W.Sink S.Sink self.new }
+        ensures stays { StaysServer self.old self.new }
+    {
+        loop {
+            let input = match next_input(self.alloc, self.decoder) {
+                Ok(Some(input)) => input,
+                Ok(None) => return Ok(AfterStep::Goes),
+                Err(fault) => return Err(fault),
+            };
+            let processed = self.attend(input);
+            if !goes_on(processed) {
+                return processed;
+            }
         }
     }
-}
 
-/// One read, and what is gone through for it.
-fn take_turn<R: Source, W: Sink, S: Sink, D: Desk>(
-    alloc: Global,
-    own: Channel,
-    reader: &mut R,
-    decoder: &mut Decoder,
-    engine: &mut Engine,
-    writer: &mut W,
-    side: &mut S,
-    desk: &mut D,
-) -> Result<Next, ServeFault>
-    requires { Waits decoder.old.pending.bytes }
-    ensures turn { TakesServerTurn (voice engine_protocol D.passes own) decoder.old.pending decoder.new.pending
-        (course (point engine.old desk.old (W.contents writer.old) (S.contents side.old)) (R.remaining reader.old)
-        (R.pauses reader.old))
-        (course (point engine.new desk.new (W.contents writer.new) (S.contents side.new)) (R.remaining reader.new)
-        (R.pauses reader.new))
-        result }
-    ensures read { result ≡ Err ServeFault.Read → IsLedTo R.failed reader.new }
-    ensures write { result ≡ Err ServeFault.Write → IsLedTo W.failed writer.new ⊎ IsLedTo S.failed side.new }
-{
-    match listen(reader, decoder) {
-        Err(fault) => Err(fault),
-        Ok(Received::End) => Ok(Next::Over),
-        Ok(Received::Paused) => conclude(attend(
-            alloc,
-            own,
-            Act::Notices,
-            engine,
-            writer,
-            side,
-            desk,
-        )),
-        Ok(Received::Bytes) => conclude(process_all(
-            alloc, own, decoder, engine, writer, side, desk,
-        )),
-    }
-}
-
-/// Takes so many turns at most. `own` says which channel it is: its messages go to the writer, those of the other one
-/// to the side writer.
-pub fn run<R: Source, W: Sink, S: Sink, D: Desk>(
-    alloc: Global,
-    own: Channel,
-    engine: &mut Engine,
-    reader: &mut R,
-    writer: &mut W,
-    side: &mut S,
-    desk: &mut D,
-    turns: u64,
-) -> Result<(), ServeFault>
-    ensures runs { RunsChannel (voice engine_protocol D.passes own) turns
-        (course (point engine.old desk.old (W.contents writer.old) (S.contents side.old)) (R.remaining reader.old)
-        (R.pauses reader.old))
-        (course (point engine.new desk.new (W.contents writer.new) (S.contents side.new)) (R.remaining reader.new)
-        (R.pauses reader.new))
-        result }
-    ensures read { result ≡ Err ServeFault.Read → IsLedTo R.failed reader.new }
-    ensures write { result ≡ Err ServeFault.Write → IsLedTo W.failed writer.new ⊎ IsLedTo S.failed side.new }
-{
-    every_message_comes_out();
-    nothing_whole_is_left();
-    let mut decoder = Decoder::new(alloc);
-    for _turn in 0..turns {
-        match take_turn(alloc, own, reader, &mut decoder, engine, writer, side, desk) {
-            Ok(Next::On) => {}
-            Ok(Next::Over) => return Ok(()),
-            Err(fault) => return Err(fault),
+    /// One read, and what is gone through for it.
+    fn take_turn<R: Source>(&mut self, reader: &mut R) -> Result<Next, ServeFault>
+        requires { Waits self.old.decoder.now.pending.bytes }
+        ensures turn { TakesServerTurn (voice_of D.passes self.old) self.old.decoder.now.pending
+            self.new.decoder.now.pending (stands_by R.Source W.Sink S.Sink self.old reader.old)
+            (stands_by R.Source W.Sink S.Sink self.new reader.new) result }
+        ensures read { result ≡ Err ServeFault.Read → IsLedTo R.failed reader.new }
+        ensures write { result ≡ Err ServeFault.Write → WriteFails W.Sink S.Sink self.new }
+        ensures stays { StaysServer self.old self.new }
+    {
+        match listen(reader, self.decoder) {
+            Err(fault) => Err(fault),
+            Ok(Received::End) => Ok(Next::Over),
+            Ok(Received::Paused) => conclude(self.attend(Act::Notices)),
+            Ok(Received::Bytes) => conclude(self.process_all()),
         }
     }
-    Err(ServeFault::ReadBound)
+
+    /// Takes so many turns at most, from the first byte on.
+    pub fn run<R: Source>(&mut self, reader: &mut R, turns: u64) -> Result<(), ServeFault>
+        requires { self.old.decoder.now.pending ≡ nothing_fed }
+        ensures runs { RunsChannel (voice_of D.passes self.old) turns
+            (stands_by R.Source W.Sink S.Sink self.old reader.old)
+            (stands_by R.Source W.Sink S.Sink self.new reader.new) result }
+        ensures read { result ≡ Err ServeFault.Read → IsLedTo R.failed reader.new }
+        ensures write { result ≡ Err ServeFault.Write → WriteFails W.Sink S.Sink self.new }
+        ensures stays { StaysServer self.old self.new }
+    {
+        every_message_comes_out();
+        nothing_whole_is_left();
+        for _turn in 0..turns {
+            match self.take_turn(reader) {
+                Ok(Next::On) => {}
+                Ok(Next::Over) => return Ok(()),
+                Err(fault) => return Err(fault),
+            }
+        }
+        Err(ServeFault::ReadBound)
+    }
 }

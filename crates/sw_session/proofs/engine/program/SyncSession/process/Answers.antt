@@ -1,4 +1,4 @@
-use Rattle.std.proofs.Common.{ℕ, refl, subst}
+use Rattle.std.proofs.Common.{ℕ, false, refl, subst}
 use Rattle.sw_session.specs.declared.engine.synchronous.Delivery.TheVariants as Delivery
 use Rattle.sw_session.specs.EngineStep.{LedBy}
 use Rattle.sw_session.specs.EngineSync.{SyncStanding, Attended, Delivers, delivery_step}
@@ -12,7 +12,7 @@ returns-in-Gone-clause-ok g c =
     let s : SyncStanding =
     record { sid = c.self.inside.sid; macros = c.self.inside.talker.macros; attached = c.self.inside.attached; partial = c.self.inside.partial } in
     subst (λ (t : SyncStanding). LedBy g.D.Desk.passes c.args.desk.now c.deliver.new.desk (λ asked.
-    Attended c.args.request t c.args.message asked c.step_of.result t)) c.self.view_is
+    Attended false c.args.request t c.args.message asked c.step_of.result t)) c.self.view_is
     (processes-gone g.D.Desk.passes _ _ c.args.request s s c.args.message Delivery.Gone c.step_of.result refl refl c.in-Gone.ensures c.step_of.ensures)
 
 pub returns-in_default-clause-ok : goal.returns-in_default-clause-ok

@@ -1,7 +1,7 @@
-use Rattle.std.proofs.Common.{IfOk, OnErr, Some, None, refl, ap, subst, ◌∙◌}
+use Rattle.std.proofs.Common.{true, false, IfOk, OnErr, Some, None, refl, ap, subst, ◌∙◌}
 use Rattle.sw_core.specs.declared.ask.Sid.{Sid}
 use Rattle.sw_session.specs.EngineStep.{LedBy}
-use Rattle.sw_session.specs.EngineSync.{SyncStanding, ServesProgram, ServesShort}
+use Rattle.sw_session.specs.EngineSync.{SyncStanding, ServesProgram, FallsShort}
 use Rattle.sw_session.proofs.SyncTalksLemmas.{program-stays, program-on}
 use Rattle.sw_session.proofs.SyncShortLemmas.{program-short}
 use Rattle.sw_session.proofs.engine.program.SyncSession.program.Goals as goal
@@ -11,7 +11,7 @@ returns-in-Some-clause-ok g c =
     let s : SyncStanding =
     record { sid = c.self.inside.sid; macros = c.self.inside.talker.macros; attached = c.self.inside.attached; partial = c.self.inside.partial } in
     subst (λ (t : SyncStanding). LedBy g.D.Desk.passes c.args.desk.now c.attend.new.desk (λ asked.
-    ServesProgram c.args.request t c.args.message asked c.step_of.result t)) c.self.view_is
+    ServesProgram false c.args.request t c.args.message asked c.step_of.result t)) c.self.view_is
     (program-stays g.D.Desk.passes _ _ c.args.request s s c.args.message
     (Some c.in-Some.reply) c.in-Some.reply c.step_of.result refl refl c.in-Some.ensures.led c.in-Some.ensures.ends c.step_of.ensures)
 
@@ -21,7 +21,7 @@ returns-in-None-clause-ok g c =
     record { sid = c.self.inside.sid; macros = c.self.inside.talker.macros; attached = c.self.inside.attached; partial = c.self.inside.partial } in
     subst (λ (t : SyncStanding). IfOk c.process.result (λ step.
     LedBy g.D.Desk.passes c.args.desk.now c.process.new.desk (λ asked.
-    ServesProgram c.args.request t c.args.message asked step c.process.new.self))) c.self.view_is
+    ServesProgram false c.args.request t c.args.message asked step c.process.new.self))) c.self.view_is
     (program-on g.D.Desk.passes _ _ _ c.args.request s _ c.args.message None c.process.result refl c.in-None.ensures.led c.process.ensures.ok)
 
 pub returns-in-None-clause-err : goal.returns-in-None-clause-err
@@ -29,7 +29,7 @@ returns-in-None-clause-err g c =
     let s : SyncStanding =
     record { sid = c.self.inside.sid; macros = c.self.inside.talker.macros; attached = c.self.inside.attached; partial = c.self.inside.partial } in
     subst (λ (t : SyncStanding). OnErr c.process.result
-    (LedBy g.D.Desk.passes c.args.desk.now c.process.new.desk (λ asked. ServesShort c.args.request t c.args.message asked))) c.self.view_is
+    (LedBy g.D.Desk.passes c.args.desk.now c.process.new.desk (λ asked. FallsShort (ServesProgram true c.args.request t c.args.message) asked))) c.self.view_is
     (program-short g.D.Desk.passes _ _ _ c.args.request s c.args.message None c.process.result refl c.in-None.ensures.led c.process.ensures.err)
 
 pub returns-in-None-clause-same : goal.returns-in-None-clause-same

@@ -3,7 +3,7 @@ use Rattle.sw_session.specs.declared.servers.turns.Received.TheVariants.{End, By
 use Rattle.sw_session.proofs.ServeWaysLemmas.{listens-is, counts-is}
 use Rattle.sw_session.proofs.ServeTurnsLemmas.{judged-ok, concluded-read, concluded-write, each-unread, all-unread, listens-unwritten, turn-err, turn-end}
 use Rattle.sw_session.proofs.ServeTurnsLemmas.{turn-paused, turn-bytes}
-use Rattle.sw_session.proofs.servers.turns.take_turn.Goals as goal
+use Rattle.sw_session.proofs.servers.channel_server.ChannelServer.take_turn.Goals as goal
 
 pub returns-in-Err-clause-turn : goal.returns-in-Err-clause-turn
 returns-in-Err-clause-turn g c = turn-err _ _ _ _ _ _ _ _ c.in-Err.fault c.requires c.in-Err.ensures.listens c.in-Err.ensures.pauses
@@ -15,14 +15,14 @@ returns-in-Ok-End-clause-turn g c =
 
 pub returns-in-Ok-Paused-clause-turn : goal.returns-in-Ok-Paused-clause-turn
 returns-in-Ok-Paused-clause-turn g c =
-    rw c.conclude.ensures (turn-paused _ c.args.decoder.now.pending c.listen.new.decoder.pending _ _ c.attend.result
+    rw c.conclude.ensures (rw c.attend.ensures.decoder (turn-paused _ c.args.self.now.decoder.now.pending c.listen.new.decoder.pending _ _ c.attend.result
     (counts-is _ _ c.listen.result (Ok Paused) (search rules) c.listen.ensures.pauses) c.requires
     (listens-is _ _ _ _ c.listen.result (Ok Paused) (search rules) c.listen.ensures.listens) c.attend.ensures.processed
-    (judged-ok false c.attend.result c.attend.ensures.judged))
+    (judged-ok false c.attend.result c.attend.ensures.judged)))
 
 pub returns-in-Ok-Bytes-clause-turn : goal.returns-in-Ok-Bytes-clause-turn
 returns-in-Ok-Bytes-clause-turn g c =
-    rw c.conclude-in-Ok-Bytes.ensures (turn-bytes _ c.args.decoder.now.pending c.listen.new.decoder.pending _ _ _ c.process_all.result
+    rw c.conclude-in-Ok-Bytes.ensures (turn-bytes _ c.args.self.now.decoder.now.pending c.listen.new.decoder.pending _ _ _ c.process_all.result
     (listens-is _ _ _ _ c.listen.result (Ok Bytes) (search rules) c.listen.ensures.listens)
     (counts-is _ _ c.listen.result (Ok Bytes) (search rules) c.listen.ensures.pauses) c.process_all.ensures.processed)
 

@@ -1,0 +1,14 @@
+use Rattle.std.proofs.Common.{length}
+use Rattle.sw_session.specs.Server.{voice_of, stands, StaysServer}
+use Rattle.sw_session.proofs.ServeWaysLemmas.{Hearing}
+use Rattle.sw_session.proofs.servers.channel_server.ChannelServer.process_all.Given as goal
+
+abbrev pub invariant-loop-input : goal.invariant-loop-input
+invariant-loop-input g l = record {
+  hearing : Hearing (voice_of g.D.Desk.passes l.fn.self) l.fn.self.decoder.now.pending l.self.decoder.now.pending
+      (stands g.W.Sink g.S.Sink l.fn.self) (stands g.W.Sink g.S.Sink l.self);
+  stays : StaysServer l.fn.self l.self;
+}
+
+abbrev pub decreases-loop-input : goal.decreases-loop-input
+decreases-loop-input g l = length l.self.decoder.now.pending.bytes
