@@ -10,8 +10,8 @@ use Rattle.std.proofs.lemmas.List.{take_all}
 use Rattle.sw_base.specs.Text.{AllPass}
 use Rattle.sw_lex.specs.declared.table.Key.{Key}
 use Rattle.sw_lex.specs.declared.packing.Form.{Form}
-use Rattle.sw_lex.specs.declared.rows.Step.{Step}
-use Rattle.sw_lex.specs.declared.rows.Step.TheVariants.{Must, May, Numbered}
+use Rattle.sw_lex.specs.declared.rows.HeaderNode.{HeaderNode}
+use Rattle.sw_lex.specs.declared.rows.HeaderNode.TheVariants.{Must, May, Numbered}
 use Rattle.sw_lex.specs.declared.rows.Row.{Row}
 use Rattle.sw_lex.specs.declared.rows.Group.{Group}
 use Rattle.sw_lex.specs.Table.{entries}
@@ -87,10 +87,10 @@ numbered_so form w n k h i f =
 
 -- ---- the nodes of one row
 
-step_on : (step : Step) (steps : List Step) → steps_packed (step ∷ steps) ≡ true → (step_packed step ≡ true) × (steps_packed steps ≡ true)
+step_on : (step : HeaderNode) (steps : List HeaderNode) → steps_packed (step ∷ steps) ≡ true → (step_packed step ≡ true) × (steps_packed steps ≡ true)
 step_on step steps h = and_parts (step_packed step) (steps_packed steps) h
 
-fit_yes : (steps : List Step) (ws : List (List ℕ)) (ns : List ℕ) (k : ℕ) → steps_packed steps ≡ true → AreNumbersOf ws ns → FitNumbers steps ns k
+fit_yes : (steps : List HeaderNode) (ws : List (List ℕ)) (ns : List ℕ) (k : ℕ) → steps_packed steps ≡ true → AreNumbersOf ws ns → FitNumbers steps ns k
     → Fits (nodes_at steps) ws k
 fit_yes [] [] [] k h i f = (refl, f.1)
 fit_yes [] (w ∷ ws) [] k h i f = absurd i
@@ -125,7 +125,7 @@ fit_yes (Numbered form ∷ steps) (w ∷ ws) (n ∷ ns) k h i f =
       ]
     ]
 
-fit_so : (steps : List Step) (ws : List (List ℕ)) (ns : List ℕ) (k : ℕ) → steps_packed steps ≡ true → AreNumbersOf ws ns → Fits (nodes_at steps) ws k
+fit_so : (steps : List HeaderNode) (ws : List (List ℕ)) (ns : List ℕ) (k : ℕ) → steps_packed steps ≡ true → AreNumbersOf ws ns → Fits (nodes_at steps) ws k
     → FitNumbers steps ns k
 fit_so [] [] [] k h i f = (refl, f.1)
 fit_so [] (w ∷ ws) [] k h i f = absurd i

@@ -11,8 +11,8 @@ use Rattle.sw_lex.specs.Unit.{Heading, Heads, Asks, Datum, kind_of, LeadsElement
 use Rattle.sw_lex.specs.Unit.{IsStuck}
 use Rattle.sw_lex.specs.Unit.{BeginsNone, IsSeventeenth, IsUnclosed, IsBadBlock, IsBroken, BreaksIn, IsUnseparated, IsDataRefused, IsTailRefused}
 use Rattle.sw_lex.specs.Unit.{IsPartRefused, IsRefusedUnit, IsBlank, HasNoHeading, is_gap, fault_at, heading_text}
-use Rattle.sw_lex.specs.declared.elements.Kind.{Kind}
-use Rattle.sw_lex.specs.declared.elements.Kind.TheVariants as kinds
+use Rattle.sw_lex.specs.declared.elements.ElementKind.{ElementKind}
+use Rattle.sw_lex.specs.declared.elements.ElementKind.TheVariants as kinds
 use Rattle.sw_lex.specs.Elements.{is_inner, IsBlock, IsExpression, IsElement}
 use Rattle.sw_lex.proofs.LeadingLemmas.{one_kind, one_leads, width_digit}
 use Rattle.sw_lex.proofs.HeadingsLemmas.{not_both, one_heading, none_heading, one_none, one_ask}
@@ -75,14 +75,14 @@ one_bad_block text e f u v =
       ]
     ]
 
-broken_not : (k : Kind) (text : List ℕ) (e : ScpiError) (a : List ℕ) → IsBroken k text e → IsElement k text a → ⊥
+broken_not : (k : ElementKind) (text : List ℕ) (e : ScpiError) (a : List ℕ) → IsBroken k text e → IsElement k text a → ⊥
 broken_not kinds.Number text e a u p = u
 broken_not kinds.Character text e a u p = u
 broken_not kinds.String text e a u p = u.open_still p.0 a p.1
 broken_not kinds.Block text e a u p = bad_block_not text e p.0 a u p.1
 broken_not kinds.Expression text e a u p = unclosed_not text e a u p
 
-one_broken : (k : Kind) (text : List ℕ) (e f : ScpiError) → IsBroken k text e → IsBroken k text f → e ≡ f
+one_broken : (k : ElementKind) (text : List ℕ) (e f : ScpiError) → IsBroken k text e → IsBroken k text f → e ≡ f
 one_broken kinds.Number text e f u v = absurd u
 one_broken kinds.Character text e f u v = absurd u
 one_broken kinds.String text e f u v = u.error ∙ sym v.error
@@ -91,11 +91,11 @@ one_broken kinds.Expression text e f u v = one_unclosed text e f u v
 
 breaks_not : (text : List ℕ) (e : ScpiError) (d : Datum) (a : List ℕ) → BreaksIn text e → LeadsElement text d a → ⊥
 breaks_not text e d a u p =
-    broken_not u.0 text e a u.2 (subst (λ (x : Kind). IsElement x text a) (one_kind text (kind_of d) u.0 p.starts u.1) p.form)
+    broken_not u.0 text e a u.2 (subst (λ (x : ElementKind). IsElement x text a) (one_kind text (kind_of d) u.0 p.starts u.1) p.form)
 
 one_break_in : (text : List ℕ) (e f : ScpiError) → BreaksIn text e → BreaksIn text f → e ≡ f
 one_break_in text e f u v =
-    one_broken u.0 text e f u.2 (subst (λ (x : Kind). IsBroken x text f) (one_kind text v.0 u.0 v.1 u.1) v.2)
+    one_broken u.0 text e f u.2 (subst (λ (x : ElementKind). IsBroken x text f) (one_kind text v.0 u.0 v.1 u.1) v.2)
 
 -- ---- what follows an element
 

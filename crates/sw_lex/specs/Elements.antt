@@ -3,8 +3,8 @@ use Rattle.std.specs.Prelude.{◌≡◌, ℕ, ◌+◌, ◌<◌, ◌≤◌, Bool,
 use Rattle.std.specs.Prelude.{length, ◌⊎◌, if◌then◌else◌, Option, Some, None}
 use Rattle.sw_base.specs.Text.{is_blank, is_digit, is_letter, is_word, AllPass, StartsOff, Spans}
 use Rattle.sw_base.specs.Number.{Written, IsMantissa, IsExponent, value_of}
-use Rattle.sw_lex.specs.declared.elements.Kind.{Kind}
-use Rattle.sw_lex.specs.declared.elements.Kind.TheVariants as kinds
+use Rattle.sw_lex.specs.declared.elements.ElementKind.{ElementKind}
+use Rattle.sw_lex.specs.declared.elements.ElementKind.TheVariants as kinds
 
 -- ---- bytes
 
@@ -25,7 +25,7 @@ abbrev pub is_inner : ℕ → Bool
 is_inner b = not (b == 41) && (not (b == 10) && nat_lt b 127)
 
 -- the kind of the element that a byte begins
-abbrev pub kind_of_byte : ℕ → Option Kind
+abbrev pub kind_of_byte : ℕ → Option ElementKind
 kind_of_byte b =
     if is_numeric b then Some kinds.Number
     else if is_letter b then Some kinds.Character
@@ -35,7 +35,7 @@ kind_of_byte b =
     else None
 
 -- the kind of the element at the front of a text, by its first byte
-abbrev pub kind_at : List ℕ → Option Kind
+abbrev pub kind_at : List ℕ → Option ElementKind
 kind_at [] = None
 kind_at (b ∷ more) = kind_of_byte b
 
@@ -107,7 +107,7 @@ pub record IsExpression (text rest : List ℕ) : Type 0 where
 -- ---- all of them
 
 -- an element of the kind at the front, and what follows it
-abbrev pub IsElement : Kind → List ℕ → List ℕ → Type 0
+abbrev pub IsElement : ElementKind → List ℕ → List ℕ → Type 0
 IsElement kinds.Number text rest = IsNumeral text rest
 IsElement kinds.Character text rest = (word : List ℕ) × Spans is_word text word rest
 IsElement kinds.String text rest = (content : List ℕ) × IsString text content rest

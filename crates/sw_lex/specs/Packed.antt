@@ -7,8 +7,8 @@ use Rattle.sw_base.specs.Text.{is_word, AllPass}
 use Rattle.sw_base.specs.Limits.{longest_mnemonic, most_arm_layers}
 use Rattle.sw_lex.specs.declared.table.Key.{Key}
 use Rattle.sw_lex.specs.declared.packing.Form.{Form}
-use Rattle.sw_lex.specs.declared.rows.Step.{Step}
-use Rattle.sw_lex.specs.declared.rows.Step.TheVariants.{Must, May, Numbered}
+use Rattle.sw_lex.specs.declared.rows.HeaderNode.{HeaderNode}
+use Rattle.sw_lex.specs.declared.rows.HeaderNode.TheVariants.{Must, May, Numbered}
 use Rattle.sw_lex.specs.declared.rows.Row.{Row}
 use Rattle.sw_lex.specs.declared.rows.Group.{Group}
 use Rattle.sw_lex.specs.Words.{short_of, long_of}
@@ -73,12 +73,12 @@ is_packed most form = is_number most form.short (short_of form.text.now) && is_n
     (long_of form.text.now)
 
 -- one byte is left for the number of a layer
-abbrev pub step_packed : Step → Bool
+abbrev pub step_packed : HeaderNode → Bool
 step_packed (Must form) = is_packed longest_mnemonic form
 step_packed (May form) = is_packed longest_mnemonic form
 step_packed (Numbered form) = is_packed (longest_mnemonic - 1) form
 
-abbrev pub steps_packed : List Step → Bool
+abbrev pub steps_packed : List HeaderNode → Bool
 steps_packed steps = list_all step_packed steps
 
 abbrev pub rows_packed : List Row → Bool
@@ -96,7 +96,7 @@ IsFormNumber form n = (n ≡ form.short) ⊎ (n ≡ form.long)
 abbrev pub IsNumberedForm : Form → ℕ → ℕ → Type 0
 IsNumberedForm form k n = (1 ≤ k) × (k ≤ most_arm_layers) × (n % 256 ≡ 48 + k) × IsFormNumber form (n / 256)
 
-abbrev pub FitNumbers : List Step → List ℕ → ℕ → Type 0
+abbrev pub FitNumbers : List HeaderNode → List ℕ → ℕ → Type 0
 FitNumbers [] ns k = (ns ≡ []) × (k ≡ 0)
 FitNumbers (Must form ∷ steps) [] k = ⊥
 FitNumbers (Must form ∷ steps) (n ∷ ns) k = IsFormNumber form n × FitNumbers steps ns k

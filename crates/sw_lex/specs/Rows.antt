@@ -2,8 +2,8 @@
 use Rattle.std.specs.Prelude.{◌≡◌, ℕ, Bool, true, false, not, ◌==◌, ◌&&◌, List, [], ◌∷◌, ◌++◌, map, ◌⊎◌}
 use Rattle.std.specs.Char.{is_ascii_lowercase, to_ascii_uppercase}
 use Rattle.sw_lex.specs.declared.table.Key.{Key}
-use Rattle.sw_lex.specs.declared.rows.Step.{Step}
-use Rattle.sw_lex.specs.declared.rows.Step.TheVariants.{Must, May, Numbered}
+use Rattle.sw_lex.specs.declared.rows.HeaderNode.{HeaderNode}
+use Rattle.sw_lex.specs.declared.rows.HeaderNode.TheVariants.{Must, May, Numbered}
 use Rattle.sw_lex.specs.declared.rows.Row.{Row}
 use Rattle.sw_lex.specs.declared.rows.Row.TheVariants.{Command, Query}
 use Rattle.sw_lex.specs.declared.rows.Group.{Group}
@@ -19,7 +19,7 @@ is_form_from (x ∷ word) (b ∷ form) capitals =
     x == to_ascii_uppercase b && is_form_from word form (capitals && not (is_ascii_lowercase b))
 
 -- the nodes of these steps
-abbrev pub nodes_at : List Step → List Node
+abbrev pub nodes_at : List HeaderNode → List Node
 nodes_at [] = []
 nodes_at (Must form ∷ steps) = must form.text.now ∷ nodes_at steps
 nodes_at (May form ∷ steps) = may form.text.now ∷ nodes_at steps
@@ -31,7 +31,7 @@ is_query_row (Command steps key) = false
 is_query_row (Query steps key) = true
 
 -- its nodes below the first
-abbrev pub row_steps : Row → List Step
+abbrev pub row_steps : Row → List HeaderNode
 row_steps (Command steps key) = steps.now
 row_steps (Query steps key) = steps.now
 

@@ -8,8 +8,8 @@ use Rattle.sw_base.specs.declared.error.ScpiError.TheVariants.{InvalidCharacter,
 use Rattle.sw_base.specs.declared.error.ScpiError.TheVariants.{ParameterNotAllowed, DataTypeError, InvalidStringData}
 use Rattle.sw_base.specs.declared.error.ScpiError.TheVariants.{InvalidBlockData, InvalidExpression}
 use Rattle.sw_lex.specs.Elements.{is_inner, kind_at, IsString, IsBlock, IsElement}
-use Rattle.sw_lex.specs.declared.elements.Kind.{Kind}
-use Rattle.sw_lex.specs.declared.elements.Kind.TheVariants as kinds
+use Rattle.sw_lex.specs.declared.elements.ElementKind.{ElementKind}
+use Rattle.sw_lex.specs.declared.elements.ElementKind.TheVariants as kinds
 use Rattle.sw_lex.specs.declared.unit.Element.{Element}
 use Rattle.sw_lex.specs.declared.unit.Element.TheVariants as elements
 use Rattle.sw_lex.specs.declared.unit.Header.{Header}
@@ -151,7 +151,7 @@ datum_text (string t) = t
 datum_text (block t) = t
 datum_text (expression t) = t
 
-abbrev pub kind_of : Datum → Kind
+abbrev pub kind_of : Datum → ElementKind
 kind_of (number t) = kinds.Number
 kind_of (character t) = kinds.Character
 kind_of (string t) = kinds.String
@@ -159,7 +159,7 @@ kind_of (block t) = kinds.Block
 kind_of (expression t) = kinds.Expression
 
 -- the element of a kind that is written so
-abbrev pub datum_with : Kind → List ℕ → Datum
+abbrev pub datum_with : ElementKind → List ℕ → Datum
 datum_with kinds.Number t = number t
 datum_with kinds.Character t = character t
 datum_with kinds.String t = string t
@@ -270,7 +270,7 @@ BeginsNone text e = (kind_at text ≡ None) × (e ≡ fault_at SyntaxError text)
 
 -- an element begins here, as the seventeenth
 abbrev pub IsSeventeenth : ℕ → List ℕ → ScpiError → Type 0
-IsSeventeenth n text e = (n ≡ most_elements) × (kind : Kind) × (kind_at text ≡ Some kind) × (e ≡ ParameterNotAllowed)
+IsSeventeenth n text e = (n ≡ most_elements) × (kind : ElementKind) × (kind_at text ≡ Some kind) × (e ≡ ParameterNotAllowed)
 
 -- a string that has no end
 pub record IsOpenString (text : List ℕ) (e : ScpiError) : Type 0 where
@@ -297,7 +297,7 @@ pub record IsUnclosed (text : List ℕ) (e : ScpiError) : Type 0 where
   pub error : e ≡ fault_at InvalidExpression after
 
 -- an element of the kind begins here, and breaks off
-abbrev pub IsBroken : Kind → List ℕ → ScpiError → Type 0
+abbrev pub IsBroken : ElementKind → List ℕ → ScpiError → Type 0
 IsBroken kinds.Number text e = ⊥
 IsBroken kinds.Character text e = ⊥
 IsBroken kinds.String text e = IsOpenString text e
@@ -306,7 +306,7 @@ IsBroken kinds.Expression text e = IsUnclosed text e
 
 -- an element begins here that breaks off
 abbrev pub BreaksIn : List ℕ → ScpiError → Type 0
-BreaksIn text e = (kind : Kind) × (kind_at text ≡ Some kind) × IsBroken kind text e
+BreaksIn text e = (kind : ElementKind) × (kind_at text ≡ Some kind) × IsBroken kind text e
 
 -- after an element comes neither a comma nor the unit's end
 pub record IsUnseparated (text : List ℕ) (e : ScpiError) : Type 0 where

@@ -16,7 +16,7 @@ use sw_base::{ScpiError, digits, is_digit, is_letter, split_once, strip_prefix, 
 
 /// The kinds of data elements.
 #[derive(Clone, Copy, Debug, PartialEq, Eq)]
-pub enum Kind {
+pub enum ElementKind {
     Number,
     Character,
     String,
@@ -25,19 +25,19 @@ pub enum Kind {
 }
 
 /// The kind of the element that a byte begins.
-fn kind_of_byte(b: u8) -> Option<Kind>
+fn kind_of_byte(b: u8) -> Option<ElementKind>
     ensures { result ≡ kind_of_byte b }
 {
     if is_digit(b) || b == b'+' || b == b'-' || b == b'.' {
-        Some(Kind::Number)
+        Some(ElementKind::Number)
     } else if is_letter(b) {
-        Some(Kind::Character)
+        Some(ElementKind::Character)
     } else if b == b'"' || b == b'\'' {
-        Some(Kind::String)
+        Some(ElementKind::String)
     } else if b == b'#' {
-        Some(Kind::Block)
+        Some(ElementKind::Block)
     } else if b == b'(' {
-        Some(Kind::Expression)
+        Some(ElementKind::Expression)
     } else {
         None
     }
@@ -159,7 +159,7 @@ fn element_end<'a>(
     text: &'a [u8],
     first: u8,
     more: &'a [u8],
-    kind: Kind,
+    kind: ElementKind,
 ) -> Result<&'a [u8], ScpiError>
     requires whole { text.now ≡ first ∷ more.now }
     requires begins { kind_of_byte first ≡ Some kind }
@@ -167,33 +167,33 @@ fn element_end<'a>(
     ensures err { IfErr result (λ e. IsBroken kind text.now e) }
 {
     match kind {
-        Kind::Number => Ok(numeral_end(text)),
-        Kind::Character => {
+        ElementKind::Number => Ok(numeral_end(text)),
+        ElementKind::Character => {
             let (_, rest) = words(text);
             Ok(rest)
         }
-        Kind::String => match closing(more, first) {
+        ElementKind::String => match closing(more, first) {
             None => Err(ScpiError::InvalidStringData),
             Some(rest) => Ok(rest),
         },
-        Kind::Block => match read_block(more) {
+        ElementKind::Block => match read_block(more) {
             Err(e) => Err(e),
             Ok((_, rest)) => Ok(rest),
         },
-        Kind::Expression => expression_end(more),
+        ElementKind::Expression => expression_end(more),
     }
 }
 
 /// The element of a kind with this text.
-fn element(kind: Kind, text: &[u8]) -> Element<'_>
+fn element(kind: ElementKind, text: &[u8]) -> Element<'_>
     ensures { datum_of result ≡ datum_with kind text.now }
 {
     match kind {
-        Kind::Number => Element::Number(text),
-        Kind::Character => Element::Character(text),
-        Kind::String => Element::String(text),
-        Kind::Block => Element::Block(text),
-        Kind::Expression => Element::Expression(text),
+        ElementKind::Number => Element::Number(text),
+        ElementKind::Character => Element::Character(text),
+        ElementKind::String => Element::String(text),
+        ElementKind::Block => Element::Block(text),
+        ElementKind::Expression => Element::Expression(text),
     }
 }
 

@@ -16,7 +16,7 @@ ghost use Rattle.sw_lex.specs.declared.table.Key.{Key};
 
 use crate::common_rows::common_at;
 use crate::packing::{Form, Word, numbers_of};
-use crate::rows::{Group, NONE, Part, Row, Step, path_at};
+use crate::rows::{Group, HeaderNode, NONE, Part, Row, path_at};
 use crate::table::Key;
 use sw_base::ARM_LAYERS;
 
@@ -81,14 +81,14 @@ fn number_behind(word: Word, form: &Form) -> Option<u8>
 }
 
 /// Whether the words are a spelling of the nodes, and the number in them.
-fn spelled(steps: &[Step], words: &[Word]) -> Option<u8>
+fn spelled(steps: &[HeaderNode], words: &[Word]) -> Option<u8>
     ensures some { IfSome result (λ k. FitNumbers steps.now words.now k) }
     ensures none { IfNone result ((k : ℕ) → FitNumbers steps.now words.now k → ⊥) }
 {
     match steps {
         [] => if words.is_empty() { Some(0) } else { None },
         [step, others @ ..] => match step {
-            Step::Must(form) => match words {
+            HeaderNode::Must(form) => match words {
                 [] => None,
                 [word, rest @ ..] => if is_spelling(*word, form) {
                     spelled(others, rest)
@@ -96,7 +96,7 @@ fn spelled(steps: &[Step], words: &[Word]) -> Option<u8>
                     None
                 },
             },
-            Step::May(form) => match words {
+            HeaderNode::May(form) => match words {
                 [] => spelled(others, words),
                 [word, rest @ ..] => {
                     if is_spelling(*word, form) {
@@ -107,7 +107,7 @@ fn spelled(steps: &[Step], words: &[Word]) -> Option<u8>
                     spelled(others, words)
                 }
             },
-            Step::Numbered(form) => match words {
+            HeaderNode::Numbered(form) => match words {
                 [] => spelled(others, words),
                 [word, rest @ ..] => {
                     if let Some(number) = spelled(others, rest) {
@@ -126,17 +126,17 @@ fn spelled(steps: &[Step], words: &[Word]) -> Option<u8>
 }
 
 /// Whether the words may be a spelling of the nodes, by the first of both.
-fn may_fit(steps: &[Step], words: &[Word]) -> bool
+fn may_fit(steps: &[HeaderNode], words: &[Word]) -> bool
     ensures { result ≡ false → (k : ℕ) → FitNumbers steps.now words.now k → ⊥ }
 {
     match steps {
         [] => words.is_empty(),
         [step, ..] => match step {
-            Step::Must(form) => match words {
+            HeaderNode::Must(form) => match words {
                 [] => false,
                 [word, ..] => is_spelling(*word, form),
             },
-            Step::May(_) | Step::Numbered(_) => true,
+            HeaderNode::May(_) | HeaderNode::Numbered(_) => true,
         },
     }
 }

@@ -32,7 +32,7 @@ pub use command::{
     AllMacros, BoxedDefinition, Channels, Command, Definition, GroupQuery, LayerQuery,
     MacroCommand, Plain, PlainQuery, Setting, StatusRead, StatusSetting, Time,
 };
-pub use elements::Kind;
+pub use elements::ElementKind;
 pub use headers::one_command;
 pub use meaning::{every_spelling, one_meaning, resolve};
 pub use path::Path;

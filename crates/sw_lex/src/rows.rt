@@ -14,15 +14,15 @@ use crate::mnemonics::{
     TIMER, TRACE, TRIGGER, VERSION,
 };
 use crate::packing::Form;
+use crate::rows::HeaderNode::{May, Must, Numbered};
 use crate::rows::Row::{Command, Query};
-use crate::rows::Step::{May, Must, Numbered};
 use crate::table::Family::{Arm, Trigger};
 use crate::table::{Key, Whole};
 use sw_base::StatusGroup::{Operation, Questionable};
 
 /// A node of a header, with its mnemonic.
 #[derive(Clone, Copy)]
-pub enum Step {
+pub enum HeaderNode {
     /// It has to be there.
     Must(Form),
     /// It may be left out.
@@ -34,13 +34,13 @@ pub enum Step {
 /// A header's nodes below the first, and what it asks for: as a command, or with a question mark.
 #[derive(Clone, Copy)]
 pub enum Row {
-    Command(&'static [Step], Key),
-    Query(&'static [Step], Key),
+    Command(&'static [HeaderNode], Key),
+    Query(&'static [HeaderNode], Key),
 }
 
 impl Row {
     /// Its nodes below the first.
-    pub fn steps(&self) -> &'static [Step]
+    pub fn steps(&self) -> &'static [HeaderNode]
         ensures { result.now ≡ row_steps self.now }
     {
         match *self {
