@@ -74,7 +74,8 @@ module _ (old : Accounts) (from : ScanSeen) (now : Accounts) (at : ScanSeen) (m 
     moved = λ end k. g.moved end
         (subst (λ (l : List Item). Moved now l end) (sym lead) (moved_both now new end (move_item m ∷ []) (moves_from at.course (at.index + 1)) step k));
     there =
-        let e : at.index + 1 + length (moves_from at.course (at.index + 1)) ≡ at.index + length (moves_from at.course at.index) = omega (arith, ap length lead) in
+        let e : at.index + 1 + length (moves_from at.course (at.index + 1)) ≡ at.index + length (moves_from at.course at.index) =
+        omega (arith, ap length lead) in
         ap (λ (n : ℕ). let p : ScanSeen = record { course = at.course; index = n } in p) e ∙ g.there;
     may =
         subst (λ (l : Layout). MayMove l (is_closed new) rest) (sym (moved_layout now new (move_item m ∷ []) step))

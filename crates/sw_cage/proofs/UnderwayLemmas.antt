@@ -124,8 +124,8 @@ can_close_each_in : (bays : Layout) (out : List (Option Ticket)) (h : length out
 can_close_each_in bays out h b [] k = tt
 can_close_each_in bays out h b (c ∷ p) k = (can_close_in bays out h b c k.0, can_close_each_in bays out h (with_channel c b) p k.1)
 
-pub may_move_in : (bays : Layout) (out : List (Option Ticket)) (h : length out ≡ length bays) (b : Channels) (l : List Item) → MayMove (layout_with bays out) b l
-    → MayMove bays b l
+pub may_move_in : (bays : Layout) (out : List (Option Ticket)) (h : length out ≡ length bays) (b : Channels) (l : List Item)
+    → MayMove (layout_with bays out) b l → MayMove bays b l
 may_move_in bays out h b [] m = tt
 may_move_in bays out h b (Awaits what ∷ l) m = tt
 may_move_in bays out h b (Close p ∷ l) m = (can_close_each_in bays out h b p m.0, may_move_in bays out h (with_each p b) l m.1)

@@ -65,8 +65,8 @@ Arrives old number at SaysWaits new scan = ((name : LayerName) × (awaits at ≡
     × (scan ≡ Some at)
 Arrives old number at (SaysPause ticket micros) new scan =
     (lasting (awaits at) ≡ Some micros) × (ticket ≡ ticket_of number at) × (new ≡ old) × (scan ≡ Some at)
-Arrives old number at (SaysJob job) new scan = (awaits at ≡ Some Read) × IsSent old at.course.meter (ticket_of number at)
-    job new × (scan ≡ Some at)
+Arrives old number at (SaysJob job) new scan =
+    (awaits at ≡ Some Read) × IsSent old at.course.meter (ticket_of number at) job new × (scan ≡ Some at)
 Arrives old number at SaysEnded new scan = (awaits at ≡ None) × (new ≡ old) × (scan ≡ None)
 Arrives old number at SaysFault new scan = ⊥
 

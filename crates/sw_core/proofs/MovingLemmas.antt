@@ -146,7 +146,8 @@ move_start ask x p sid plan f (Done None) w q n h = absurd (cc (n))
 move_start ask x p sid plan f (Refused HardwareError) w q n h =
     let g : Advances (begun p.cage) (course_of p.settings) 0 SaysFault q.cage =
     subst (λ (t : TakenSeen). Advances (begun p.cage) (course_of p.settings) 0 t q.cage) (fault_told h.told h.answer_is) h.starts.3 in
-    let r : AdvancesOrFails (occupancy_of (begun p.cage)) (p.cage.number + 1) (moves_from (course_of p.settings) 0) (next_place (course_of p.settings) 0) SaysFault
+    let course = course_of p.settings in
+    let r : AdvancesOrFails (occupancy_of (begun p.cage)) (p.cage.number + 1) (moves_from course 0) (next_place course 0) SaysFault
     (occupancy_of q.cage) q.cage.scan = g.runs in
     record { near = near_none p q r.over; ends = λ at is u over. absurd (let e = sym is ∙ none_of p h.may.idle in cc (e)); adds = λ own. inr (inl g.readings) }
 move_start ask x p sid plan f (Refused OutOfMemory) None q n h = move_is ask x p q h.3

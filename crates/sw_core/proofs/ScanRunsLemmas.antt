@@ -108,7 +108,8 @@ begun_by p q plan f told k e h =
       some = some_bound plan.settings h.2.listed (subst (λ (s : SettingsSeen). IsInRange s) (sym settings) k.range);
       none = h.3.readings;
       held = λ at is.
-          let r = leaves_goes (occupancy_of (begun p.cage)) (occupancy_of q.cage) (p.cage.number + 1) (course_of p.settings) 0 told q.cage.scan at h.3.runs is in
+          let r = leaves_goes (occupancy_of (begun p.cage)) (occupancy_of q.cage) (p.cage.number + 1) (course_of p.settings) 0 told q.cage.scan at
+          h.3.runs is in
           let all : effect (is_closed p.cage.cards) (agenda p.settings) ≡ is_among plan.closed =
           ap (λ (b : Channels). effect b (agenda p.settings)) found ∙ ap (λ (s : SettingsSeen). effect (is_among plan.closed) (agenda s)) (sym settings)
           ∙ fun_ext h.2.sound.back in

@@ -14,7 +14,8 @@ go_past-requires-clause-left c =
     let r = item_there items s.index (subst (λ (p : ScanSeen). p.index < length p.course.items) (sym c.self.view_is) c.requires) in (
       r.0,
       drop (s.index + 1) items,
-      subst (λ (l : List Step). Does l s.at (r.0 ∷ drop (s.index + 1) items)) (sym c.steps.ensures.steps) (subst (Does s.code.steps s.at) r.1 c.self.invariant.does),
+      subst (λ (l : List Step). Does l s.at (r.0 ∷ drop (s.index + 1) items)) (sym c.steps.ensures.steps)
+          (subst (Does s.code.steps s.at) r.1 c.self.invariant.does),
     )
 
 pub invariant_of-self : goal.invariant_of-self

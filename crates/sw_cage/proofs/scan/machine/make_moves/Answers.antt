@@ -17,7 +17,8 @@ loop-next-preserved g c =
     let old = accounts_of c.args.slots.now in
     let new = accounts_of c.make_move.new.slots in
     let at = c.loop-next.scan in
-    let is : next_move (drop at.index at.course.items) ≡ Some c.in-Some.next = sym c.next_move.ensures ∙ c.in-Some.is in
+    let told : next_move (drop at.index at.course.items) ≡ c.next_move.result = sym c.next_move.ensures in
+    let is : next_move (drop at.index at.course.items) ≡ Some c.in-Some.next = told ∙ c.in-Some.is in
     record {
       goes = subst (λ (x : ScanSeen). MovesOn old c.args.scan.now new x) (sym c.go_past.ensures)
           (moves_next old c.args.scan.now (accounts_of c.loop-next.slots) at c.in-Some.next is c.loop-next.invariant.goes new c.in_ok-make_move.ensures.ok);
