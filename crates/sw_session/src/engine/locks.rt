@@ -6,6 +6,7 @@ ghost use Rattle.sw_session.specs.EngineAsync.{AsksForLock, AsksLock, AwaitsLock
 ghost use Rattle.sw_session.specs.EngineAsync.{lock_reply, info_reply};
 ghost use Rattle.sw_session.specs.declared.engine.step.Channel.TheVariants.{Asynchronous};
 
+use crate::asking::TURNS;
 use crate::desk::{Desk, Wake};
 use crate::engine::refusals::{ErrorCode, error};
 use crate::engine::responses::{lock_info, plain};
@@ -14,9 +15,6 @@ use std::alloc::Global;
 use sw_base::Sequence;
 use sw_core::{SessionAnswer, SessionAsk, Sid};
 use sw_hislip::{Kind, Message};
-
-/// How often a lock that is held is asked for.
-const TURNS: u64 = 1 << 32;
 
 /// Answers an AsyncLock: control code 1 asks for a lock, 0 releases one.
 pub fn lock<D: Desk>(alloc: Global, sid: Sid, message: Message, desk: &mut D) -> Reply
