@@ -12,7 +12,7 @@ use std::io::{BufRead, ErrorKind};
 use sw_base::KEPT_BYTES;
 
 /// What lines are read from, in sight of what was written by then.
-pub trait Source<W> {
+pub trait LineSource<W> {
     ghost use Rattle.std.specs.Prelude.{◌≡◌, ◌≤◌, ◌<◌, ℕ, List, Option, length, IfErr, IfSome, Err};
     ghost use Rattle.std.specs.Io.KnownBytes.{Keeps};
     ghost use Rattle.sw_base.specs.Limits.{most_kept};
@@ -64,7 +64,7 @@ pub trait Source<W> {
 }
 
 /// Any reader is a source of lines. It tells nothing of what it sees.
-impl<Rd: BufRead, W> Source<W> for Rd {
+impl<Rd: BufRead, W> LineSource<W> for Rd {
     ghost remaining = { λ r. Rd.remaining r };
 
     ghost asked = { λ _ _ _. Unit {0} };
@@ -119,7 +119,7 @@ impl<Rd: BufRead, W> Source<W> for Rd {
 
 /// Takes the first line with its line feed from the source, and keeps it, or its first `KEPT_BYTES` bytes where it is
 /// longer. Nothing is kept where the input is at its end. Each time that the source is asked for bytes spends a turn.
-pub fn read_line<S: Source<W>, W>(
+pub fn read_line<S: LineSource<W>, W>(
     source: &mut S,
     written: &W,
     turns: &mut u64,

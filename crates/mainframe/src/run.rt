@@ -11,7 +11,7 @@ ghost use Rattle.mainframe.specs.Run.{AnsweredFrom, EndsFrom, Runs};
 
 use crate::cards::{first_card, in_slots, meter_card, second_card, third_card};
 use crate::fault::RunFault;
-use crate::reading::{Source, read_line};
+use crate::reading::{LineSource, read_line};
 use crate::writing::{gather, write_out};
 use std::alloc::Global;
 use std::io::{BufRead, Write};
@@ -45,7 +45,7 @@ pub fn run_lines<Rd: BufRead, W: Write>(
 
 /// Answers each line of the source as a program message, by a mainframe that takes these cards. The program's are never
 /// refused (`cards_are_welcome`), so where none is to be had there was no memory.
-fn run_over<R: Relay, M: Meter, S: Source<W>, W: Write>(
+fn run_over<R: Relay, M: Meter, S: LineSource<W>, W: Write>(
     alloc: Global,
     source: &mut S,
     writer: &mut W,
@@ -67,7 +67,7 @@ fn run_over<R: Relay, M: Meter, S: Source<W>, W: Write>(
 
 /// Answers each line of the source by the desk. Each time that the source is asked for bytes, all answers so far are
 /// written and handed on.
-pub fn run_on<R: Relay, M: Meter, S: Source<W>, W: Write>(
+pub fn run_on<R: Relay, M: Meter, S: LineSource<W>, W: Write>(
     alloc: Global,
     source: &mut S,
     writer: &mut W,
@@ -127,7 +127,7 @@ pub fn run_on<R: Relay, M: Meter, S: Source<W>, W: Write>(
 
 /// Answers the whole lines that the source has at hand. It is asked for nothing. A line is taken once all that was
 /// outstanding after it is carried out.
-fn answer_at_hand<R: Relay, M: Meter, S: Source<W>, W: Write>(
+fn answer_at_hand<R: Relay, M: Meter, S: LineSource<W>, W: Write>(
     source: &mut S,
     writer: &mut W,
     desk: &mut CoreDesk<R, M>,

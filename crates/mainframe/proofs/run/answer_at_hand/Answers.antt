@@ -13,7 +13,7 @@ returns-then-length-eq0-clause-ok g c turns = record {
   lines = (c.loop-at_hand.invariant.in_turn turns).lines;
   last = stand (state c.loop-at_hand.desk c.loop-at_hand.talker.macros) c.loop-at_hand.source c.loop-at_hand.writer c.loop-at_hand.unwritten.items turns;
   turns = (c.loop-at_hand.invariant.in_turn turns).turns;
-  moves = unasked-one g.S.Source.unasked _ _ c.look-length.ensures.unasked;
+  moves = unasked-one g.S.LineSource.unasked _ _ c.look-length.ensures.unasked;
   keeps = c.look-length.ensures.keeps;
   same = refl;
 }
@@ -23,7 +23,7 @@ returns-clause-ok g c turns = record {
   lines = (c.loop-at_hand.invariant.in_turn turns).lines;
   last = stand (state c.loop-at_hand.desk c.loop-at_hand.talker.macros) c.loop-at_hand.source c.loop-at_hand.writer c.loop-at_hand.unwritten.items turns;
   turns = (c.loop-at_hand.invariant.in_turn turns).turns;
-  moves = unasked-none g.S.Source.unasked _;
+  moves = unasked-none g.S.LineSource.unasked _;
   keeps = keeps-same _;
   same = refl;
 }
@@ -34,7 +34,7 @@ returns-in-Err-clause-err g c turns = record {
   last = stand (state c.loop-at_hand.desk c.loop-at_hand.talker.macros) c.loop-at_hand.source c.loop-at_hand.writer c.loop-at_hand.unwritten.items turns;
   turns = (c.loop-at_hand.invariant.in_turn turns).turns;
   same = refl;
-  moves = unasked-one g.S.Source.unasked _ _ c.look-length.ensures.unasked;
+  moves = unasked-one g.S.LineSource.unasked _ _ c.look-length.ensures.unasked;
   keeps = c.look-length.ensures.keeps;
   stops = stops-output g.W.Write.contents c.in-Err.fault c.loop-at_hand.writer c.write_out.new.writer c.loop-at_hand.unwritten.items c.rest.new.self
       (cc (c.in-Err.ensures.output)) c.in-Err.ensures.err;
@@ -48,7 +48,7 @@ returns-then-not-rest-clause-err g c turns =
       last = stand (state c.loop-at_hand.desk c.loop-at_hand.talker.macros) c.loop-at_hand.source c.loop-at_hand.writer c.loop-at_hand.unwritten.items turns;
       turns = (c.loop-at_hand.invariant.in_turn turns).turns;
       same = refl;
-      moves = unasked-one g.S.Source.unasked _ _ c.look-length.ensures.unasked;
+      moves = unasked-one g.S.LineSource.unasked _ _ c.look-length.ensures.unasked;
       keeps = c.look-length.ensures.keeps;
       stops = (
         c.in_default.ensures.ok,
@@ -60,8 +60,8 @@ pub returns-in-Err-gather-clause-err : goal.returns-in-Err-gather-clause-err
 returns-in-Err-gather-clause-err g c turns =
     let some : 0 < c.look-length.result = omega (arith, c.if-length-eq0.false) in
     let shows = c.look-length.ensures.line some in
-    let taken = shown-taken (g.S.Source.remaining c.loop-at_hand.source) (g.S.Source.remaining c.look-length.new.self)
-    (g.S.Source.remaining c.take.new.self) c.look-length.result c.look-length.new.line.items (g.S.Source.shows c.look-length.new.self c.look-length.result)
+    let taken = shown-taken (g.S.LineSource.remaining c.loop-at_hand.source) (g.S.LineSource.remaining c.look-length.new.self)
+    (g.S.LineSource.remaining c.take.new.self) c.look-length.result c.look-length.new.line.items (g.S.LineSource.shows c.look-length.new.self c.look-length.result)
     shows c.look-length.ensures.keeps c.look-length.ensures.shown c.take.ensures.taken in
     let rested : c.rest.result ≡ true = search rules in
     let answered = line_rested c.loop-at_hand.invariant.sid c.deref.ensures.value c.message-told.ensures.talked c.rest.ensures.rests rested in
@@ -69,7 +69,7 @@ returns-in-Err-gather-clause-err g c turns =
     (c.loop-at_hand.unwritten.items ++ c.message-told.result.items) turns in
     let read = stand (state c.loop-at_hand.desk c.loop-at_hand.talker.macros) c.take.new.self c.loop-at_hand.writer c.loop-at_hand.unwritten.items turns in
     let comes = further read next (c.loop-at_hand.invariant.in_turn turns) (inl (record {
-      moves = unasked-two g.S.Source.unasked _ c.look-length.new.self _ c.look-length.ensures.unasked c.take.ensures.unasked;
+      moves = unasked-two g.S.LineSource.unasked _ c.look-length.new.self _ c.look-length.ensures.unasked c.take.ensures.unasked;
       writer = refl;
       unwritten = refl;
       turns = refl;
@@ -81,7 +81,7 @@ returns-in-Err-gather-clause-err g c turns =
       last = next;
       turns = comes.turns;
       same = refl;
-      moves = unasked-none g.S.Source.unasked _;
+      moves = unasked-none g.S.LineSource.unasked _;
       keeps = keeps-same _;
       stops = stops-output g.W.Write.contents c.in-Err-gather.fault c.loop-at_hand.writer c.gather.new.writer
           (c.loop-at_hand.unwritten.items ++ c.message-told.result.items) c.rest.new.self (cc (c.in-Err-gather.ensures.output)) part;
@@ -91,8 +91,8 @@ pub loop-at_hand-preserved : goal.loop-at_hand-preserved
 loop-at_hand-preserved g c =
     let some : 0 < c.look-length.result = omega (arith, c.if-length-eq0.false) in
     let shows = c.look-length.ensures.line some in
-    let taken = shown-taken (g.S.Source.remaining c.loop-at_hand.source) (g.S.Source.remaining c.look-length.new.self)
-    (g.S.Source.remaining c.take.new.self) c.look-length.result c.look-length.new.line.items (g.S.Source.shows c.look-length.new.self c.look-length.result)
+    let taken = shown-taken (g.S.LineSource.remaining c.loop-at_hand.source) (g.S.LineSource.remaining c.look-length.new.self)
+    (g.S.LineSource.remaining c.take.new.self) c.look-length.result c.look-length.new.line.items (g.S.LineSource.shows c.look-length.new.self c.look-length.result)
     shows c.look-length.ensures.keeps c.look-length.ensures.shown c.take.ensures.taken in
     let rested : c.rest.result ≡ true = search rules in
     let answered = line_rested c.loop-at_hand.invariant.sid c.deref.ensures.value c.message-told.ensures.talked c.rest.ensures.rests rested in
@@ -105,7 +105,7 @@ loop-at_hand-preserved g c =
           let read = stand (state c.loop-at_hand.desk c.loop-at_hand.talker.macros) c.take.new.self c.loop-at_hand.writer
           c.loop-at_hand.unwritten.items turns in
           further read next (c.loop-at_hand.invariant.in_turn turns) (inl (record {
-            moves = unasked-two g.S.Source.unasked _ c.look-length.new.self _ c.look-length.ensures.unasked c.take.ensures.unasked;
+            moves = unasked-two g.S.LineSource.unasked _ c.look-length.new.self _ c.look-length.ensures.unasked c.take.ensures.unasked;
             writer = refl;
             unwritten = refl;
             turns = refl;

@@ -32,7 +32,7 @@ returns-in-Err-clause-err g c = (stops-behind refl c.loop-turns.invariant.sid c.
 
 pub returns-in-Err-clause-turns : goal.returns-in-Err-clause-turns
 returns-in-Err-clause-turns g c =
-    stopped-asks g.S.Source.failed (stops-behind refl c.loop-turns.invariant.sid c.loop-turns.invariant.in_turn (c.in-Err.ensures.err c.loop-turns.turns))
+    stopped-asks g.S.LineSource.failed (stops-behind refl c.loop-turns.invariant.sid c.loop-turns.invariant.in_turn (c.in-Err.ensures.err c.loop-turns.turns))
 
 -- a write fails before the next line is read
 pub returns-in-Err-write_out-clause-err : goal.returns-in-Err-write_out-clause-err
@@ -44,7 +44,7 @@ returns-in-Err-write_out-clause-err g c =
 pub returns-in-Err-write_out-clause-turns : goal.returns-in-Err-write_out-clause-turns
 returns-in-Err-write_out-clause-turns g c =
     let hand = at-hand c.loop-turns.invariant.sid c.loop-turns.invariant.in_turn (c.in_default.ensures.ok c.loop-turns.turns) in
-    stopped-asks g.S.Source.failed
+    stopped-asks g.S.LineSource.failed
     (fails-write {desk = c.answer_at_hand.new.desk} refl hand
     (same-fault c.in-Err-write_out.fault Output c.in-Err-write_out.ensures.output) c.in-Err-write_out.ensures.err)
 
@@ -153,7 +153,7 @@ returns-in-Err-gather-clause-turns g c =
     (gathers-none _ _) refl refl in
     let part = subst (λ (b : List ℕ). WritesPart (g.W.Write.contents c.write_out.new.writer) (g.W.Write.contents c.gather.new.writer)
     (c.write_out.new.unwritten.items ++ b)) c.deref-in-loop-turns.ensures.value c.in-Err-gather.ensures.err in
-    stopped-asks g.S.Source.failed
+    stopped-asks g.S.LineSource.failed
     (fails-write {desk = c.rest.new.self} refl (handed-none comes) (same-fault c.in-Err-gather.fault Output c.in-Err-gather.ensures.output) part)
 
 pub loop-turns-preserved : goal.loop-turns-preserved

@@ -1,7 +1,7 @@
 use Rattle.std.proofs.Common.{subst, arith, length-take}
 use Rattle.std.specs.Io.BufRead.{FillKeeps}
 use Rattle.mainframe.proofs.KeptLemmas.{shown-line, room-shown}
-use Rattle.mainframe.proofs.reading.AnySource.look.Goals as goal
+use Rattle.mainframe.proofs.reading.AnyLineSource.look.Goals as goal
 
 pub returns-clause-line : goal.returns-clause-line
 returns-clause-line g c some =

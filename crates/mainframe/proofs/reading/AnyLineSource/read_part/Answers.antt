@@ -5,8 +5,8 @@ use Rattle.std.proofs.BufReadLemmas.{Consumes_shown, zero_unless_positive}
 use Rattle.std.proofs.Transfers.{StopsAt-take}
 use Rattle.sw_base.specs.Limits.{most_kept}
 use Rattle.mainframe.proofs.KeptLemmas.{kept-fits, takes-none}
-use Rattle.mainframe.proofs.reading.AnySource.read_part.Goals.{then-end-eq0, else-end-eq0}
-use Rattle.mainframe.proofs.reading.AnySource.read_part.Goals as goal
+use Rattle.mainframe.proofs.reading.AnyLineSource.read_part.Goals.{then-end-eq0, else-end-eq0}
+use Rattle.mainframe.proofs.reading.AnyLineSource.read_part.Goals as goal
 
 pub returns-in-Interrupted-clause-part : goal.returns-in-Interrupted-clause-part
 returns-in-Interrupted-clause-part g c = takes-none _ _ _ _ _ c.fill_buf.follows.holds-at-none.0 refl c.requires (λ e. absurd (cc (e)))
