@@ -98,7 +98,7 @@ meaning-arms k (arm ∷ arms) inside =
 pub meaning-tree : (s : SettingsSeen) → 0 < length s.list → meaning (tree_of s) ≡ agenda s
 meaning-tree s h = meaning-arms 0 (arms_of s) (passes_tree s) ∙ ap (turns_of (arms_of s)) (meaning-passes s) ∙ sym (agenda_is s h)
 
-nested-passes : (s : SettingsSeen) (used : ℕ → Bool) → used 3 ≡ false → IsNested used (passes_tree s)
+nested-passes : (s : SettingsSeen) (used : ℕ → Bool) → used most_arm_layers ≡ false → IsNested used (passes_tree s)
 nested-passes s used free = at (s.trigger.count / length s.list) where
   at : (q : ℕ) → IsNested used (cond (eqb q 0) (line (passes s 0 (s.trigger.count % length s.list)) Nil)
       (Times most_arm_layers q (line (passes s 0 (length s.list)) Nil) (line (passes s 0 (s.trigger.count % length s.list)) Nil)))
