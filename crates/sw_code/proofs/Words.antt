@@ -32,7 +32,8 @@ both false b h = absurd (cc h)
 -- a version is in the instrument's range, as a test
 abbrev is_version : Version → Bool
 is_version v =
-    nat_le v.slots most_slots && (nat_le v.arm_layers most_arm_layers && (nat_le 1 v.counters && (nat_le v.counters most_counters && nat_le v.joined most_joined)))
+    nat_le v.slots most_slots && (nat_le v.arm_layers most_arm_layers
+    && (nat_le 1 v.counters && (nat_le v.counters most_counters && nat_le v.joined most_joined)))
 
 range_by_test : (v : Version) → is_version v ≡ true → IsVersion v
 range_by_test v h =

@@ -79,5 +79,6 @@ pub length-agenda : (s : SettingsSeen) → 0 < length s.list → IsInRange s →
 length-agenda s h i =
     let all = passes s 0 s.trigger.count in
     let c : s.trigger.count * 5 ≤ 100000 * 5 = mul-le s.trigger.count 5 100000 5 i.trigger.count.1 (omega arith) in
-    let turns : length (turns_of (arms_of s) all) ≤ most_items most_arm_layers = length-arms s i arm_layers all (omega (arith, length-passes s 0 s.trigger.count, c)) in
+    let turns : length (turns_of (arms_of s) all) ≤ most_items most_arm_layers =
+    length-arms s i arm_layers all (omega (arith, length-passes s 0 s.trigger.count, c)) in
     omega (arith, turns, ap length (agenda_is s h))
