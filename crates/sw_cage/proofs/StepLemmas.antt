@@ -1,5 +1,5 @@
 -- Single steps of a scan's code.
-use Rattle.std.proofs.Common.{◌≡◌, ℕ, zero, suc, ◌+◌, ◌-◌, ◌<◌, ◌≤◌, ◌≢◌, Bool, true, false, cond, eqb, List, [], ◌∷◌, length, replicate, Option}
+use Rattle.std.proofs.Common.{◌≡◌, ℕ, zero, suc, ◌+◌, ◌-◌, ◌<◌, ◌≤◌, ◌≢◌, Bool, true, false, cond, eqb, List, [], ◌∷◌, length, Option}
 use Rattle.std.proofs.Common.{Some, None, slice_set, refl, sym, ap, ◌∙◌, subst, arith, get_or, ◌⊎◌, inl, inr}
 use mathlib.Core.Path.{fun_ext}
 use Rattle.std.specs.List.{slice_get, AllByRecursion}
@@ -10,7 +10,7 @@ use Rattle.sw_trigger.specs.Agenda.{Item, Awaits, Close, Open}
 use Rattle.sw_code.specs.declared.code.Step.{Step}
 use Rattle.sw_code.specs.declared.code.Step.TheVariants as step
 use Rattle.sw_code.specs.Range.{IsStep}
-use Rattle.sw_code.specs.Code.{Counters, put, passing, act, exec, Unfolds}
+use Rattle.sw_code.specs.Code.{put, passing, act, exec}
 use Rattle.sw_code.specs.Tree.{step_of}
 use Rattle.sw_code.specs.Pace.{IsNearBy, IsNear, IsNearAfter, IsPaced}
 use Rattle.sw_cage.specs.declared.scan.steps.Place.{Place}
@@ -36,29 +36,6 @@ put_is cs k v h = fun_ext (λ j. at j (eqb j k) refl) where
   at j false e =
       let other : j ≢ k = λ s. absurd (grind (arith, nat_tests)) in
       sym (get_or-set_other cs k j v 0 other)
-
-abbrev at_start : Counters
-at_start = λ k. 0
-
-abbrev zeros : List ℕ
-zeros = 0 ∷ 0 ∷ 0 ∷ 0 ∷ []
-
-start_is : counters_of zeros ≡ at_start
-start_is = fun_ext at where
-  at : (j : ℕ) → counters_of zeros j ≡ at_start j
-  at zero = refl
-  at (suc zero) = refl
-  at (suc (suc zero)) = refl
-  at (suc (suc (suc zero))) = refl
-  at (suc (suc (suc (suc j)))) = refl
-
--- a run of the code from its start
-pub does_start : (code : List Step) (at : Place) (items : List Item) → at.step ≡ 0 → at.counters ≡ replicate 4 0 → Unfolds code items → Does code at items
-does_start code at items e f u = record {
-  steps = u.steps;
-  run = ap (λ (pc : ℕ). exec code u.steps pc (counters_of at.counters)) e ∙ ap (λ (cs : List ℕ). exec code u.steps 0 (counters_of cs)) f ∙
-      ap (exec code u.steps 0) start_is ∙ u.run;
-}
 
 module _ (code : List Step) (at : Place) where
   -- the step, and what comes then

@@ -56,12 +56,12 @@ first_more (x ∷ p) c h = refl
 abbrev inside : List Channel → ℕ → Inside
 inside chans len = record { chans = chans; len = len }
 
-end_holds : (p : List Channel) (c : Channel) (k : ℕ) → IsPosition p → length p + suc k ≡ 4 → is_among p c ≡ false
+end_holds : (p : List Channel) (c : Channel) (k : ℕ) → IsPosition p → length p + suc k ≡ most_joined → is_among p c ≡ false
     → HoldsPosition (inside (p ++ c ∷ replicate k (first_of p)) (suc (length p)))
 end_holds p c k i e h =
     let t = take_end p c (replicate k (first_of p)) in
     let n : length (p ++ c ∷ []) ≡ suc (length p) = omega (arith, length-append p (c ∷ [])) in
-    let left : 4 - length (p ++ c ∷ []) ≡ k = omega (arith, n, e) in
+    let left : most_joined - length (p ++ c ∷ []) ≡ k = omega (arith, n, e) in
     let position : IsPosition (p ++ c ∷ []) = record {
       some = omega (arith, n);
       few = omega (arith, n, e);
@@ -80,12 +80,13 @@ pub joined_holds : (a : Inside) (c : Channel) → HoldsPosition a → is_among (
 joined_holds a c h free few =
     let p = position_of a in
     let l : length p ≡ a.len = h.len in
-    let e : length p + suc (3 - length p) ≡ 4 = omega arith in
-    let m : 4 - length p ≡ suc (3 - length p) = omega arith in
-    let is : slice_set a.chans a.len c ≡ p ++ c ∷ replicate (3 - length p) (first_of p) =
+    let left = most_joined - 1 - length p in
+    let e : length p + suc left ≡ most_joined = omega arith in
+    let m : most_joined - length p ≡ suc left = omega arith in
+    let is : slice_set a.chans a.len c ≡ p ++ c ∷ replicate left (first_of p) =
     ap (λ (x : List Channel). slice_set x a.len c) (sym h.rest ∙ ap (λ (x : ℕ). p ++ replicate x (first_of p)) m)
-    ∙ ap (λ (x : ℕ). slice_set (p ++ replicate (suc (3 - length p)) (first_of p)) x c) (sym l)
-    ∙ set_end p (first_of p) c (replicate (3 - length p) (first_of p)) in
+    ∙ ap (λ (x : ℕ). slice_set (p ++ replicate (suc left) (first_of p)) x c) (sym l)
+    ∙ set_end p (first_of p) c (replicate left (first_of p)) in
     let n : suc (length p) ≡ a.len + 1 = omega arith in
     subst (λ (x : List Channel). HoldsPosition (inside x (a.len + 1))) (sym is)
-    (subst (λ (x : ℕ). HoldsPosition (inside (p ++ c ∷ replicate (3 - length p) (first_of p)) x)) n (end_holds p c (3 - length p) h.position e free))
+    (subst (λ (x : ℕ). HoldsPosition (inside (p ++ c ∷ replicate left (first_of p)) x)) n (end_holds p c left h.position e free))

@@ -9,7 +9,7 @@ use Rattle.sw_base.specs.declared.error.ScpiError.{ScpiError}
 use Rattle.sw_base.specs.declared.error.ScpiError.TheVariants.{InvalidExpression, DataOutOfRange, TooMuchData}
 use Rattle.sw_channel.specs.Grammar.{WrittenChannel, joined}
 use Rattle.sw_channel.specs.Meaning.{channel_of}
-use Rattle.sw_channel.specs.Positions.{Position, IsPosition, AreDifferent, is_among}
+use Rattle.sw_channel.specs.Positions.{Position, IsPosition, AreDifferent, is_among, most_joined}
 use Rattle.sw_channel.specs.PositionMeaning.{NamePositions, is_full, with_next, and_next, position_after, position_of_joined, one_position}
 use Rattle.sw_channel.proofs.Joining.{different_more, different_apart}
 
@@ -57,7 +57,7 @@ next_never count (Some c) p e =
 -- what a position may be while its channels are read, in a list of so many
 record IsBegun (count : ℕ) (p : Position) : Type 0 where
   different : AreDifferent p
-  few : length p ≤ 4
+  few : length p ≤ most_joined
   room : 1 ≤ length p → count < 512
 
 begun_more : (count : ℕ) (p : Position) (c : Channel) → IsBegun count p → is_among p c ≡ false → is_full count p ≡ false → IsBegun count (p ++ c ∷ [])
@@ -67,7 +67,7 @@ begun_more count [] c b t u = record {
   room = λ h. leb-false 512 count u;
 }
 begun_more count (d ∷ p) c b t u =
-    let k : length (d ∷ p) < 4 = leb-false 4 (length (d ∷ p)) u in
+    let k : length (d ∷ p) < most_joined = leb-false most_joined (length (d ∷ p)) u in
     record {
       different = different_more (d ∷ p) c b.different t;
       few = omega (arith, k, length-append (d ∷ p) (c ∷ []));
@@ -106,7 +106,7 @@ after_ok count p q [] b e =
 after_ok count p q (w ∷ ws) b e = added_first count p q w ws (with_next count (channel_of w) p) b refl e (λ m c h. after_ok count m q ws c h)
 
 named_after : (count : ℕ) (p rest : Position) (ws : List WrittenChannel) → map channel_of ws ≡ map Some rest → AreDifferent (p ++ rest)
-    → length (p ++ rest) ≤ 4 → count < 512 → position_after count (Ok p) ws ≡ Ok (p ++ rest)
+    → length (p ++ rest) ≤ most_joined → count < 512 → position_after count (Ok p) ws ≡ Ok (p ++ rest)
 named_after count p [] [] m d f r = ap Ok (sym (append-nil p))
 named_after count p (c ∷ rest) [] m d f r = absurd cc
 named_after count p [] (w ∷ ws) m d f r = absurd cc
@@ -116,11 +116,11 @@ named_after count p (c ∷ rest) (w ∷ ws) m d f r =
     let whole = append_assoc p (c ∷ []) rest in
     let next = next_named count (channel_of w) c p first (different_apart p c rest d) (room p f) in
     ap (λ (x : Result Position ScpiError). position_after count x ws) next
-    ∙ named_after count (p ++ c ∷ []) rest ws others (subst AreDifferent (sym whole) d) (subst (λ (x : Position). length x ≤ 4) (sym whole) f) r
+    ∙ named_after count (p ++ c ∷ []) rest ws others (subst AreDifferent (sym whole) d) (subst (λ (x : Position). length x ≤ most_joined) (sym whole) f) r
     ∙ ap Ok whole where
-      room : (p : Position) → length (p ++ c ∷ rest) ≤ 4 → is_full count p ≡ false
+      room : (p : Position) → length (p ++ c ∷ rest) ≤ most_joined → is_full count p ≡ false
       room [] f = lt-leb 512 count r
-      room (x ∷ p) f = lt-leb 4 (length (x ∷ p)) (omega (arith, f, length-append (x ∷ p) (c ∷ rest)))
+      room (x ∷ p) f = lt-leb most_joined (length (x ∷ p)) (omega (arith, f, length-append (x ∷ p) (c ∷ rest)))
 
 after_never : (count : ℕ) (r : Result Position ScpiError) (ws : List WrittenChannel) → (r ≡ Err InvalidExpression → ⊥)
     → position_after count r ws ≡ Err InvalidExpression → ⊥

@@ -19,6 +19,6 @@ mod print;
 mod read;
 mod run;
 
-pub use position::Position;
+pub use position::{MOST, Position};
 pub use print::{print_list, print_positions};
 pub use read::{one_reading, one_reading_of_positions, read_list, read_positions};

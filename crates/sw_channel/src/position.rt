@@ -9,7 +9,7 @@ use std::marker::Model;
 use sw_base::{Chan, ScpiError};
 
 /// How many channels a position has at most.
-const MOST: usize = 4;
+pub const MOST: usize = 4;
 
 /// One to four different channels, in the order in which a scan closes and opens them.
 ///

@@ -1,18 +1,18 @@
 -- What settings compile to unfolds to their agenda.
 use Rattle.std.proofs.Common.{◌≡◌, ℕ, zero, suc, ◌+◌, ◌-◌, ◌*◌, ◌/◌, ◌%◌, ◌<◌, ◌≤◌, Bool, true, false, ◌||◌, cond, eqb, List, [], ◌∷◌, ◌++◌, length, map}
-use Rattle.std.proofs.Common.{get_or, refl, sym, ap, ◌∙◌, subst, arith, append_assoc, append-nil}
+use Rattle.std.proofs.Common.{get_or, refl, sym, ap, ◌∙◌, subst, arith, append_assoc, append-nil, length-append, take, drop}
 use Rattle.std.proofs.lemmas.Bool.Decides.{nat_tests}
-use Rattle.std.proofs.lemmas.List.{length-map, map-append}
+use Rattle.std.proofs.lemmas.List.{length-map, map-append, take_all}
 use Rattle.std.proofs.lemmas.Nat.{div-add-mod'}
 use Rattle.std.proofs.Math.Nat.{add-mul-mod_self_right, suc-mul}
 use Rattle.sw_base.specs.Limits.{most_arm_layers}
 use Rattle.sw_base.specs.declared.terms.LayerName.{LayerName}
-use Rattle.sw_base.specs.declared.terms.LayerName.TheVariants.{Trigger}
+use Rattle.sw_base.specs.declared.terms.LayerName.TheVariants.{Arm, Trigger}
 use Rattle.sw_channel.specs.Positions.{Position}
 use Rattle.sw_code.specs.declared.code.Step.{Step}
 use Rattle.sw_code.specs.declared.code.Step.TheVariants as step
 use Rattle.sw_trigger.specs.declared.layer.Layer.{Layer}
-use Rattle.sw_trigger.specs.Settings.{SettingsSeen, IsInRange, NamedLayer, named, arms_of}
+use Rattle.sw_trigger.specs.Settings.{SettingsSeen, IsInRange, NamedLayer, layer_of, named, arms_of}
 use Rattle.sw_base.specs.Layers.{arm_layers, number_of}
 use Rattle.sw_base.specs.declared.terms.ArmLayer.{ArmLayer}
 use Rattle.sw_trigger.specs.Agenda.{Item, Awaits, repeated, head_of, position_at, pass_of, passes, visit, turns_of, agenda}
@@ -98,7 +98,7 @@ meaning-arms k (arm ∷ arms) inside =
 pub meaning-tree : (s : SettingsSeen) → 0 < length s.list → meaning (tree_of s) ≡ agenda s
 meaning-tree s h = meaning-arms 0 (arms_of s) (passes_tree s) ∙ ap (turns_of (arms_of s)) (meaning-passes s) ∙ sym (agenda_is s h)
 
-nested-passes : (s : SettingsSeen) (used : ℕ → Bool) → used 3 ≡ false → IsNested used (passes_tree s)
+nested-passes : (s : SettingsSeen) (used : ℕ → Bool) → used most_arm_layers ≡ false → IsNested used (passes_tree s)
 nested-passes s used free = at (s.trigger.count / length s.list) where
   at : (q : ℕ) → IsNested used (cond (eqb q 0) (line (passes s 0 (s.trigger.count % length s.list)) Nil)
       (Times most_arm_layers q (line (passes s 0 (length s.list)) Nil) (line (passes s 0 (s.trigger.count % length s.list)) Nil)))
@@ -168,6 +168,29 @@ arms_more k n place name l arms inside before h body after e p q b a =
     let turned : ((before ++ (step.Set k l.count ∷ h)) ++ body) ++ step.Loop k place ∷ [] ≡ before ++ (step.Set k l.count ∷ ((h ++ body) ++ step.Loop k place ∷ [])) =
     simp append_assoc in
     a ∙ turned ∙ sym (ap (λ (x : List Step). before ++ x) whole)
+
+pub first_and_rest : {A : Type 0} (l : List A) (d : A) → 1 ≤ length l → l ≡ get_or l 0 d ∷ take (length l - 1) (drop 1 l)
+first_and_rest [] d h = absurd (omega arith)
+first_and_rest (x ∷ l) d h =
+    let n : length (x ∷ l) - 1 ≡ length l = omega arith in
+    ap (λ t. x ∷ t) (sym (ap (λ (i : ℕ). take i l) n ∙ take_all (length l) l (omega arith)))
+
+pub arms_step : (s : SettingsSeen) (k place : ℕ) (arms inner : List ArmLayer) (arm : ArmLayer) (before begun inside after : List Step) → arms ≡ arm ∷ inner
+    → begun ≡ before ++ (step.Set k (layer_of s (Arm arm)).count ∷ steps_of (map Awaits (head_of (Arm arm) (layer_of s (Arm arm)))))
+    → place ≡ length before + 1
+    → inside ≡ begun ++ flatten (arms_tree (k + 1) (named s inner) (passes_tree s)) (length begun)
+    → after ≡ inside ++ step.Loop k place ∷ []
+    → after ≡ before ++ flatten (arms_tree k (named s arms) (passes_tree s)) (length before)
+arms_step s k place arms inner arm before begun inside after e f p g h =
+    let l = layer_of s (Arm arm) in
+    let head = steps_of (map Awaits (head_of (Arm arm) l)) in
+    let tree = arms_tree (k + 1) (named s inner) (passes_tree s) in
+    let size : length begun ≡ place + length head = ap length f ∙ omega (arith, length-append before (step.Set k l.count ∷ head), p) in
+    let whole : after ≡ ((before ++ (step.Set k l.count ∷ head)) ++ flatten tree (length begun)) ++ step.Loop k place ∷ [] =
+    h ∙ ap (λ (x : List Step). x ++ step.Loop k place ∷ []) (g ∙ ap (λ (x : List Step). x ++ flatten tree (length begun)) f) in
+    arms_more k (length before) place (Arm arm) l (named s inner) (passes_tree s) before head (flatten tree (length begun)) after refl p refl
+    (ap (flatten tree) size) whole
+    ∙ ap (λ (x : List ArmLayer). before ++ flatten (arms_tree k (named s x) (passes_tree s)) (length before)) (sym e)
 
 -- the passes as the program writes them, with a loop and without
 pub looped_is : (s : SettingsSeen) (place : ℕ) (body rest : List Step) → 0 < s.trigger.count / length s.list → body ≡ steps_of (passes s 0 (length s.list))

@@ -162,7 +162,7 @@ fit-arms k (arm ∷ arms) inside n a few f h =
       omega (arith, size-line head (arms_tree (k + 1) arms inside), r.1, length-head arm.0 arm.1 a.0),
     )
 
-fit-tree : (s : SettingsSeen) → 0 < length s.list → IsInRange s → IsFit (tree_of s) × (size (tree_of s) ≤ 5134)
+fit-tree : (s : SettingsSeen) → 0 < length s.list → IsInRange s → IsFit (tree_of s) × (size (tree_of s) ≤ most_arm_layers * 4 + 5122)
 fit-tree s some i =
     let inner = fit-rounds s i.trigger some i.list i.trigger.count.1 in
     fit-arms 0 (arms_of s) (passes_tree s) 5122 (arms_fit s i arm_layers) (omega arith) inner.0 inner.1

@@ -4,7 +4,7 @@ use Rattle.std.proofs.Common.{Some, None, sym, subst, arith, length-append}
 use Rattle.std.specs.List.{slice_get}
 use Rattle.std.proofs.lemmas.Bool.Decides.{nat_tests}
 use Rattle.std.proofs.lemmas.Nat.{div-add-mod'}
-use Rattle.sw_base.specs.Limits.{most_arm_layers}
+use Rattle.sw_base.specs.Limits.{most_arm_layers, most_counters}
 use Rattle.sw_base.specs.declared.terms.LayerName.TheVariants.{Trigger}
 use Rattle.sw_trigger.specs.declared.layer.Awaited.TheVariants.{Wait, Period, Pause, Read}
 use Rattle.sw_code.specs.declared.code.Step.{Step}
@@ -219,4 +219,4 @@ arms_within k d (arm ∷ arms) inside h w = let e : suc (length arms + d) ≡ su
 -- the code of settings
 pub compiled_paced : (s : SettingsSeen) → 0 < length s.list → IsInRange s → IsPaced (compiled s).steps most_counting
 compiled_paced s some i =
-    let inner = passes_within s some i.trigger.count.0 in paced (tree_of s) 4 (arms_within 0 1 (arms_of s) (passes_tree s) inner.0 inner.1)
+    let inner = passes_within s some i.trigger.count.0 in paced (tree_of s) most_counters (arms_within 0 1 (arms_of s) (passes_tree s) inner.0 inner.1)

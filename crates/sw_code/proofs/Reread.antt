@@ -127,7 +127,7 @@ position_lacks mark h k j (c ∷ p) r =
       others [] r = tt
       others (d ∷ q) r = (j, AllPass-append (λ (b : ℕ). not (b == mark)) (channel_text d) (others_text q) (channel_lacks mark h k d r.0) (others q r.1))
 
-joined_good : (done : Position) (c : Channel) (q : Position) → IsPosition (done ++ c ∷ q) → joined_with done c ≡ Ok (done ++ c ∷ [])
+joined_good : (done : Position) (c : Channel) (q : Position) → IsPosition (done ++ c ∷ q) → joined_with newest done c ≡ Ok (done ++ c ∷ [])
 joined_good done c q i =
     let n : length (done ++ c ∷ q) ≡ length done + suc (length q) = length-append done (c ∷ q) in
     let few = i.few in
@@ -140,12 +140,12 @@ others_printed : (done : Position) (c : Channel) (q : Position) → IsPosition (
 others_printed done c [] i r rs =
     ap (λ (t : List ℕ). joined_in newest done (parts_at 38 t)) (append-nil (channel_text c))
     ∙ ap (joined_in newest done) (only_of 38 (channel_text c) (channel_lacks 38 refl refl c r))
-    ∙ ap (λ (x : Result Channel ListFault). then_read x (λ (d : Channel). then_read (joined_with done d) (λ (q : Position). Ok q))) (channel_printed c r)
+    ∙ ap (λ (x : Result Channel ListFault). then_read x (λ (d : Channel). then_read (joined_with newest done d) (λ (q : Position). Ok q))) (channel_printed c r)
     ∙ ap (λ (x : Result Position ListFault). then_read x (λ (q : Position). Ok q)) (joined_good done c [] i)
 others_printed done c (d ∷ q) i r rs =
     let rest = parts_at 38 (channel_text d ++ others_text q) in
     ap (joined_in newest done) (first_of 38 (channel_text c) (channel_text d ++ others_text q) (channel_lacks 38 refl refl c r))
-    ∙ ap (λ (x : Result Channel ListFault). then_read x (λ (e : Channel). then_read (joined_with done e) (λ (p : Position). joined_in newest p rest))) (channel_printed c r)
+    ∙ ap (λ (x : Result Channel ListFault). then_read x (λ (e : Channel). then_read (joined_with newest done e) (λ (p : Position). joined_in newest p rest))) (channel_printed c r)
     ∙ ap (λ (x : Result Position ListFault). then_read x (λ (p : Position). joined_in newest p rest)) (joined_good done c (d ∷ q) i)
     ∙ others_printed (done ++ c ∷ []) d q (subst IsPosition (sym (append_assoc done (c ∷ []) (d ∷ q))) i) rs.0 rs.1
     ∙ ap Ok (append_assoc done (c ∷ []) (d ∷ q))
@@ -273,7 +273,7 @@ listing_printed p i h =
     let rest = line_of (codes "meter" ∷ decimal p.meter ∷ []) ++ listed_lines p.steps in
     let lines = parts_at 10 (listed_lines p.steps) in
     let first_text = join_with_byte 32 (first_parts newest) in
-    let first_lacks : Lacks 10 first_text = (refl, (refl, (refl, (refl, (refl, digits_lack 10 refl 2 (omega arith)))))) in
+    let first_lacks : Lacks 10 first_text = (refl, (refl, (refl, (refl, (refl, digits_lack 10 refl newest.number (omega arith)))))) in
     let second_lacks : Lacks 10 second = join_lacks (codes "meter") (decimal p.meter) (
       refl,
       (refl, (refl, (refl, (refl, tt)))),

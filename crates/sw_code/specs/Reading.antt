@@ -5,7 +5,7 @@ use Rattle.std.specs.List.{list_all, slice_split}
 use Rattle.std.specs.Result.{result_ok}
 use Rattle.std.specs.Str.{bytes_eq}
 use Rattle.sw_base.specs.Layout.{Channel}
-use Rattle.sw_channel.specs.Positions.{Position, is_among, most_joined}
+use Rattle.sw_channel.specs.Positions.{Position, is_among}
 use Rattle.sw_base.specs.Limits.{most_channels, most_trigger_count, longest_delay}
 use Rattle.sw_base.specs.Layers.{arm_layers}
 use Rattle.sw_base.specs.Text.{is_digit}
@@ -40,11 +40,6 @@ number_in low high part =
     if is_numeral part && nat_le low (value_of part)
     && nat_le (value_of part) high then Ok (value_of part) else Err BadNumber
 
--- a channel more: not one that is there, nor a fifth
-abbrev pub joined_with : Position → Channel → Result Position ListFault
-joined_with p c = if is_among p c then Err BadNumber else
-    (if nat_lt (length p) most_joined then Ok (p ++ c ∷ []) else Err BadNumber)
-
 -- the layer that a word names, among these ARM layers and TRIGger
 abbrev pub layer_among : List ArmLayer → List ℕ → Result LayerName ListFault
 layer_among [] word = if bytes_eq word (layer_word Trigger) then Ok Trigger else Err BadStep
@@ -74,6 +69,11 @@ module _ (v : Version) where
   channel_in (s ∷ c ∷ []) = then_read (number_in 1 v.slots s) (λ slot.
       then_read (number_in 1 most_channels c) (λ ch. Ok (slot, ch)))
   channel_in _ = Err BadNumber
+
+  -- a channel more: not one that is there, nor one too many
+  abbrev pub joined_with : Position → Channel → Result Position ListFault
+  joined_with p c = if is_among p c then Err BadNumber else
+      (if nat_lt (length p) v.joined then Ok (p ++ c ∷ []) else Err BadNumber)
 
   abbrev pub joined_in : Position → List (List ℕ) → Result Position ListFault
   joined_in p [] = Ok p

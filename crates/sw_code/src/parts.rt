@@ -97,19 +97,23 @@ fn all_joined(version: Version, position: Position, text: &[u8]) -> Result<Posit
     let mut rest = text;
     'channels: loop {
         match first_part(rest, b'&') {
-            None => return with(joined, channel(version, rest)?),
+            None => return with(version, joined, channel(version, rest)?),
             Some((first, others)) => {
-                joined = with(joined, channel(version, first)?)?;
+                joined = with(version, joined, channel(version, first)?)?;
                 rest = others;
             }
         }
     }
 }
 
-/// The position with one channel more.
-fn with(position: Position, chan: Chan) -> Result<Position, ListFault>
-    ensures { result ≡ joined_with position chan }
+/// The position with one channel more, of as many as this version has.
+fn with(version: Version, position: Position, chan: Chan) -> Result<Position, ListFault>
+    requires version { IsVersion version }
+    ensures { result ≡ joined_with version position chan }
 {
+    if position.len() >= version.joined {
+        return Err(ListFault::BadNumber);
+    }
     match position.joined(chan) {
         Ok(joined) => Ok(joined),
         Err(_) => Err(ListFault::BadNumber),

@@ -16,8 +16,8 @@ use std::alloc::{AllocError, Global};
 use sw_base::{Chan, LayerName, ScpiError, print_number};
 use sw_channel::Position;
 
-/// The listing of a code, in version 2: `scan 2`, `meter` and its slot, and a line for each step, numbers without
-/// leading zeros.
+/// The listing of a code, in the newest version: `scan` and its number, `meter` and its slot, and a line for each step,
+/// numbers without leading zeros.
 ///
 /// `OutOfMemory` comes where the text found no room, and no other error.
 pub fn print_listing(alloc: Global, code: &Code) -> Result<Vec<u8>, ScpiError>

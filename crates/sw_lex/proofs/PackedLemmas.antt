@@ -6,6 +6,7 @@ use Rattle.std.proofs.lemmas.Bool.{cases_Bool}
 use Rattle.std.specs.Char.{to_ascii_uppercase}
 use Rattle.std.proofs.lemmas.Grind.{common_steps, pow_more, take_at_read}
 use Rattle.std.proofs.lemmas.List.{append-nil, length-append, length-map, length-take-le, map_push}
+use Rattle.sw_base.specs.Limits.{most_arm_layers}
 use Rattle.sw_base.specs.Text.{AllPass}
 use Rattle.sw_base.proofs.Runs.{AllPass-append}
 use Rattle.sw_lex.specs.Packed.{packed_after, packed, is_byte, last_bytes, IsNumberOf, AreNumbersOf}
@@ -94,14 +95,14 @@ number_yes w form n f h i e =
     ]
 
 -- a digit behind the form
-pub digit_behind : (form : List ℕ) (f k : ℕ) → k ≤ 3 → HasNumber 11 f form → HasNumber 12 (f * 256 + (48 + k)) (form ++ (48 + k) ∷ [])
+pub digit_behind : (form : List ℕ) (f k : ℕ) → k ≤ most_arm_layers → HasNumber 11 f form → HasNumber 12 (f * 256 + (48 + k)) (form ++ (48 + k) ∷ [])
 digit_behind form f k l h = record {
   number = ap (λ (x : ℕ). x * 256 + (48 + k)) h.number ∙ sym (after_append 1 form (48 + k));
   short = omega (arith, h.short, length-append form ((48 + k) ∷ []));
   bytes = AllPass-append is_byte form ((48 + k) ∷ []) h.bytes (grind (arith, common_steps), tt);
 }
 
-pub split_number : (n f k : ℕ) → k ≤ 3 → n ≡ f * 256 + (48 + k) → (n % 256 ≡ 48 + k) × (n / 256 ≡ f)
+pub split_number : (n f k : ℕ) → k ≤ most_arm_layers → n ≡ f * 256 + (48 + k) → (n % 256 ≡ 48 + k) × (n / 256 ≡ f)
 split_number n f k l e = (omega (arith, e, l), omega (arith, e, l))
 
 pub joined_number : (n f k : ℕ) → n % 256 ≡ 48 + k → n / 256 ≡ f → n ≡ f * 256 + (48 + k)

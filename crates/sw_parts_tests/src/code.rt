@@ -262,7 +262,7 @@ fn lines_that_are_missing(rt: HostRuntime) {
 fn first_lines_that_tell_no_version(rt: HostRuntime) {
     let listings: [&[u8]; 8] = [
         b"scan 0\nmeter 4\nhalt\n",
-        b"scan 3\nmeter 4\nhalt\n",
+        b"scan 99\nmeter 4\nhalt\n",
         b"scan 02\nmeter 4\nhalt\n",
         b"scan 1 \nmeter 4\nhalt\n",
         b"scan 2 \nmeter 4\nhalt\n",
@@ -285,7 +285,7 @@ fn versions_of_texts(rt: HostRuntime) {
     assert_eq!(rt; version_number(b"scan 1\nmeter x"), Some(1));
     assert_eq!(rt; version_number(b"scan 2"), None);
     assert_eq!(rt; version_number(b"scan 02\n"), None);
-    assert_eq!(rt; version_number(b"scan 3\n"), None);
+    assert_eq!(rt; version_number(b"scan 99\n"), None);
     assert_eq!(rt; version_number(b""), None);
 }
 

@@ -78,7 +78,7 @@ fn wrong_first_lines_are_refused_wherever_they_are_cut(rt: HostRuntime) {
     let step = ListFault::BadStep;
     let number = ListFault::BadNumber;
     assert!(rt;
-        holds(rt.alloc(), b"scan 3\nmeter 4\nhalt\n", 1, step)
+        holds(rt.alloc(), b"scan 99\nmeter 4\nhalt\n", 1, step)
             && holds(rt.alloc(), b"scan 02\nmeter 4\nhalt\n", 1, step)
             && holds(rt.alloc(), b"SCAN 1\nmeter 4\nhalt\n", 1, step)
             && holds(rt.alloc(), b"scan 1 \nmeter 4\nhalt\n", 1, step)

@@ -172,33 +172,37 @@ turned count head inside c some small same fits =
 pub product_most : (a b m n : ℕ) → a ≤ m → b ≤ n → a * b ≤ m * n
 product_most a b m n h k = le_trans (mul-le-mul_left a k) (mul-le-mul_right n h)
 
--- inside so many layers at most stands no more than inside so many
-pub awaited_below : (n : ℕ) → suc n ≤ most_arm_layers → most_awaited n ≤ 300002002000
-awaited_below zero h = omega arith
-awaited_below (suc zero) h = omega arith
-awaited_below (suc (suc zero)) h = omega arith
-awaited_below (suc (suc (suc n))) h = absurd (omega arith)
+-- fewer layers await and read no more
+fewer_await : (m n : ℕ) → n ≤ m → most_awaited n ≤ most_awaited m
+fewer_await zero zero h = omega arith
+fewer_await zero (suc n) h = absurd (omega arith)
+fewer_await (suc m) zero h = omega (arith, fewer_await m zero (omega arith))
+fewer_await (suc m) (suc n) h = omega (arith, fewer_await m n (omega arith))
 
-pub read_below : (n : ℕ) → suc n ≤ most_arm_layers → most_read n ≤ 100000000000
-read_below zero h = omega arith
-read_below (suc zero) h = omega arith
-read_below (suc (suc zero)) h = omega arith
-read_below (suc (suc (suc n))) h = absurd (omega arith)
+fewer_read : (m n : ℕ) → n ≤ m → most_read n ≤ most_read m
+fewer_read zero zero h = omega arith
+fewer_read zero (suc n) h = absurd (omega arith)
+fewer_read (suc m) zero h = omega (arith, fewer_read m zero (omega arith))
+fewer_read (suc m) (suc n) h = omega (arith, fewer_read m n (omega arith))
+
+-- the layers that stand inside the outermost
+abbrev inner_layers : ℕ
+inner_layers = most_arm_layers - 1
 
 -- the turns of a layer more fit into a number of the code, and so does what they read
 pub fits_awaited : (n inside count : ℕ) → suc n ≤ most_arm_layers → inside ≤ most_awaited n → count ≤ most_arm_count
     → (2 + inside) * count < 18446744073709551616
 fits_awaited n inside count few h k =
-    let b = awaited_below n few in
-    let p = product_most (2 + inside) count 300002002002 1000 (omega (arith, h, b)) (omega (arith, k)) in
+    let b = fewer_await inner_layers n (omega arith) in
+    let p = product_most (2 + inside) count (2 + most_awaited inner_layers) most_arm_count (omega (arith, h, b)) k in
     omega (arith, p)
 
 pub fits_turn : (n inside : ℕ) → suc n ≤ most_arm_layers → inside ≤ most_awaited n → 2 + inside < 18446744073709551616
-fits_turn n inside few h = let b = awaited_below n few in omega (arith, h, b)
+fits_turn n inside few h = let b = fewer_await inner_layers n (omega arith) in omega (arith, h, b)
 
 pub fits_read : (n inside count : ℕ) → suc n ≤ most_arm_layers → inside ≤ most_read n → count ≤ most_arm_count
     → count * inside < 18446744073709551616
 fits_read n inside count few h k =
-    let b = read_below n few in
-    let p = product_most count inside 1000 100000000000 (omega (arith, k)) (omega (arith, h, b)) in
+    let b = fewer_read inner_layers n (omega arith) in
+    let p = product_most count inside most_arm_count (most_read inner_layers) k (omega (arith, h, b)) in
     omega (arith, p)

@@ -7,7 +7,7 @@ use Rattle.std.proofs.Math.Nat.{le-mul_of_pos_right, mul_comm}
 use Rattle.sw_base.specs.Limits.{most_arm_layers, most_arm_count, most_trigger_count}
 use Rattle.sw_base.specs.Layers.{arm_layers, number_of}
 use Rattle.sw_base.specs.declared.terms.ArmLayer.{ArmLayer}
-use Rattle.sw_base.specs.declared.terms.ArmLayer.TheVariants.{First, Second, Third}
+use Rattle.sw_base.specs.declared.terms.ArmLayer.TheVariants.{First}
 use Rattle.sw_base.specs.declared.terms.LayerName.{LayerName}
 use Rattle.sw_base.specs.declared.terms.LayerName.TheVariants.{Arm, Trigger}
 use Rattle.sw_trigger.specs.declared.layer.Layer.{Layer}
@@ -21,8 +21,7 @@ use Rattle.sw_trigger.proofs.Awaiting.{length-in_turns, awaiting-agenda}
 -- each ARM layer has its place
 number_below : (arm : ArmLayer) → number_of arm - 1 < most_arm_layers
 number_below First = omega arith
-number_below Second = omega arith
-number_below Third = omega arith
+number_below inner = omega arith
 
 pub layer_range : (s : SettingsSeen) (l : LayerName) → IsInRange s → IsLayer (most_of l) (layer_of s l)
 layer_range s (Arm arm) r = r.arms (number_of arm - 1)

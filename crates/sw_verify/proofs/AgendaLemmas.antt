@@ -8,6 +8,7 @@ use Rattle.sw_base.specs.declared.terms.LayerName.{LayerName}
 use Rattle.sw_base.specs.declared.terms.LayerName.TheVariants.{Arm, Trigger}
 use Rattle.sw_base.specs.declared.terms.ArmLayer.{ArmLayer}
 use Rattle.sw_base.specs.Layers.{arm_layers, number_of}
+use Rattle.sw_base.specs.Limits.{most_arm_layers}
 use Rattle.sw_base.specs.declared.terms.Source.{Source}
 use Rattle.sw_base.specs.declared.terms.Source.TheVariants.{Immediate, Bus, External, Hold, Timer}
 use Rattle.sw_trigger.specs.declared.layer.Layer.{Layer}
@@ -78,5 +79,6 @@ pub length-agenda : (s : SettingsSeen) → 0 < length s.list → IsInRange s →
 length-agenda s h i =
     let all = passes s 0 s.trigger.count in
     let c : s.trigger.count * 5 ≤ 100000 * 5 = mul-le s.trigger.count 5 100000 5 i.trigger.count.1 (omega arith) in
-    let turns : length (turns_of (arms_of s) all) ≤ 500002002002000 = length-arms s i arm_layers all (omega (arith, length-passes s 0 s.trigger.count, c)) in
+    let turns : length (turns_of (arms_of s) all) ≤ most_items most_arm_layers =
+    length-arms s i arm_layers all (omega (arith, length-passes s 0 s.trigger.count, c)) in
     omega (arith, turns, ap length (agenda_is s h))

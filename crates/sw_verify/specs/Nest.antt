@@ -1,8 +1,9 @@
 -- What the verifier looks at, each step once.
-use Rattle.std.specs.Prelude.{◌≡◌, ℕ, ◌+◌, ◌*◌, ◌<◌, ◌≤◌, ◌==◌, Bool, true, false, not, List, [], ◌∷◌}
+use Rattle.std.specs.Prelude.{◌≡◌, ℕ, zero, suc, ◌+◌, ◌*◌, ◌<◌, ◌≤◌, ◌==◌, Bool, true, false, not, List, [], ◌∷◌}
 use Rattle.std.specs.Prelude.{Option, Some, None, if◌then◌else◌}
 use Rattle.std.specs.List.{list_any}
 use Rattle.sw_base.specs.Layout.{Layout}
+use Rattle.sw_base.specs.Limits.{most_counters, most_trigger_count}
 use Rattle.sw_code.specs.declared.code.Step.{Step}
 use Rattle.sw_code.specs.declared.code.Step.TheVariants as step
 use Rattle.sw_trigger.specs.declared.layer.Awaited.{Awaited}
@@ -106,15 +107,19 @@ tally counts (step.Open p ∷ steps) f gs = tally counts steps f gs
 tally counts (step.Loop k to ∷ steps) f gs = tally_loop gs (tally counts steps)
 tally counts (step.Halt ∷ steps) f gs = 0
 
--- each factor is at most 10^20
+-- how often a step is done at most: so many loops stand round it, each on a counter of its own
+abbrev pub most_turns : ℕ → ℕ
+most_turns zero = 1
+most_turns (suc counters) = most_trigger_count * most_turns counters
+
 abbrev pub Limited : ℕ → Type 0
-Limited f = f ≤ 100000000000000000000
+Limited f = f ≤ most_turns most_counters
 
 abbrev pub limited_loop : List ℕ → (ℕ → List ℕ → Type 0) → Type 0
 limited_loop [] go = ⊥
 limited_loop (g ∷ gs) go = Limited g × go g gs
 
--- Each step is done at most 10^20 times. The next one is done f times, and what follows the ends of the open loops as
+-- Each step is done no oftener than that. The next one is done f times, and what follows the ends of the open loops as
 -- often as gs says
 abbrev pub AreLimited : List Step → ℕ → List ℕ → Type 0
 AreLimited [] f gs = Unit {0}

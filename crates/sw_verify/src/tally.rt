@@ -14,7 +14,8 @@ pub struct Counts {
     pub readings: u128,
 }
 
-/// The counts of a code whose loops are nested. Each step is done at most 10^20 times, so 128 bits hold them.
+/// The counts of a code whose loops are nested. A step is done at most as often as a loop on each counter comes to, so
+/// 128 bits hold them.
 pub fn tally(alloc: Global, steps: &[Step]) -> Result<Counts, AllocError>
     requires length { length steps.now ≤ most_steps }
     requires limited { AreLimited steps.now 1 [] }

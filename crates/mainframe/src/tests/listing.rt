@@ -73,7 +73,7 @@ fn listings_of_the_newer_version_are_judged(rt: HostRuntime) -> Result<(), Fail>
             3
         )
     );
-    assert!(rt; says(alloc, b"scan 3\nmeter 4\nhalt\n", b"line 1: BadStep\n", 3));
+    assert!(rt; says(alloc, b"scan 99\nmeter 4\nhalt\n", b"line 1: BadStep\n", 3));
     Ok(())
 }
 

@@ -1,5 +1,6 @@
 use Rattle.std.proofs.Common.{◌≡◌, ◌+◌, ◌*◌, ◌≤◌, drop, []}
-use Rattle.sw_verify.specs.Nest.{tally, every, is_read, AreLimited, Limited}
+use Rattle.sw_base.specs.Limits.{most_counters}
+use Rattle.sw_verify.specs.Nest.{tally, every, is_read, AreLimited, Limited, most_turns}
 use Rattle.sw_verify.proofs.tally.tally.Given as goal
 
 abbrev pub invariant-loop-i : goal.invariant-loop-i
@@ -8,5 +9,5 @@ invariant-loop-i l = record {
   readings : l.counts.readings + tally is_read (drop l.i l.steps) l.turns l.saved.items ≡ tally is_read l.steps 1 [];
   limited : AreLimited (drop l.i l.steps) l.turns l.saved.items;
   turns : Limited l.turns;
-  most : (l.counts.bound ≤ l.i * 100000000000000000000) × (l.counts.readings ≤ l.i * 100000000000000000000);
+  most : (l.counts.bound ≤ l.i * most_turns most_counters) × (l.counts.readings ≤ l.i * most_turns most_counters);
 }

@@ -4,6 +4,5 @@ use Rattle.sw_verify.proofs.sources.Sources.new.Goals as goal
 
 pub returns : goal.returns
 returns c =
-    let told = c.loop-i.invariant.arms in
-    each_source c.loop-i.by_layer _ _ _ _ c.loop-i.invariant.size c.loop-i.invariant.trigger (told 0 (omega (arith, c.loop-i-test.false)))
-    (told 1 (omega (arith, c.loop-i-test.false))) (told 2 (omega (arith, c.loop-i-test.false)))
+    let told = c.loop-i.invariant in
+    each_source c.args.settings.now c.loop-i.by_layer told.size told.trigger (λ j few. told.arms j (omega (arith, few, c.loop-i-test.false)))
