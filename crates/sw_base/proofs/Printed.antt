@@ -5,7 +5,7 @@ use Rattle.std.specs.Prelude.{pos, negsuc, codes}
 use Rattle.std.proofs.Math.Nat.{div-one, div-div-eq-div-mul, pow-succ', div-le_self}
 use Rattle.std.proofs.lemmas.Bool.{cases_lt}
 use Rattle.std.specs.Fmt.{decimal}
-use Rattle.std.proofs.lemmas.List.{append_assoc, drop-set, length_push, length-append, length-drop, take_more_set, take_at, drop-set-lt, drop-drop, drop_at, length-set, set_comm}
+use Rattle.std.proofs.lemmas.List.{append_assoc, drop-set, length_push, length-append, length-drop, take_more_set, take_at, drop-set-lt, drop-drop, drop_at, length-set, set_comm, take-append-drop}
 use Rattle.std.proofs.lemmas.List.{same_from_push, get_or_append_left}
 use Rattle.std.proofs.lemmas.Fmt.{decimal_digit, decimal_step, decimal_by_steps, decimal_nonempty, first_decimal, decimal_injective}
 use lib.Ieee.Fits.{and_l, and_r}
@@ -87,6 +87,15 @@ length-decimal_step n from small = ap length (decimal_step n from small) ∙ len
 
 pub length-decimal_digit : (n : ℕ) → n < 10 → length (decimal n) ≡ 1
 length-decimal_digit n below = ap length (decimal_digit n below)
+
+-- a number of one digit is put in its place
+pub one_alone : (old : List ℕ) (start n : ℕ) → start < length old → n < 10 → set old start (48 + n) ≡ take start old ++ (decimal n ++ drop (start + 1) old)
+one_alone old start n within below =
+    let new : List ℕ = set old start (48 + n) in
+    let front : take (start + 1) new ≡ take start old ++ (48 + n) ∷ [] = take_more_set old start (48 + n) within in
+    let back : drop (start + 1) new ≡ drop (start + 1) old = drop-set-lt (start + 1) old start (48 + n) (omega arith) in
+    sym (take-append-drop (start + 1) new)
+    ∙ rw (front, back, decimal_digit n below) (append_assoc (take start old) ((48 + n) ∷ []) (drop (start + 1) old))
 
 -- a point put behind what was written, and digits behind the point
 pub one_point : (old front digits more : List ℕ) (p places : ℕ) → length front + length digits ≡ p → p < length old

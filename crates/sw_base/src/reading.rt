@@ -109,6 +109,10 @@ fn write_number(n: u64, buffer: &mut [u8; 32], start: usize) -> usize
     ensures end { result ≡ start + length (decimal n) }
     ensures within { result ≤ start + 20 }
 {
+    if n < 10 {
+        buffer[start] = b'0' + n as u8;
+        return start + 1;
+    }
     let count = width(n);
     write_digits(n, count, buffer, start);
     start + count
