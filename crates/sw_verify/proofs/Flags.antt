@@ -21,17 +21,20 @@ use Rattle.sw_verify.specs.Rows.{flag_at, flags_of, HasNoMore, Fit, row_words, I
 
 -- ---- how many flags are set
 
+abbrev how_many : List Bool → ℕ
+how_many flags = count_by (λ (f : Bool). f) flags
+
 abbrev one : Bool → ℕ
 one f = cond f 1 0
 
-none_set : (n : ℕ) → count_by (λ (f : Bool). f) (replicate n false) ≡ 0
-none_set n = let e = sum_by-replicate (λ (f : Bool). cond f 1 0) n false in omega arith
+none_set : (n : ℕ) → how_many (replicate n false) ≡ 0
+none_set n = let e = sum_by-replicate one n false in omega arith
 
-all_clear : (flags : List Bool) → count_by (λ (f : Bool). f) flags ≡ 0 → flags ≡ replicate (length flags) false
+all_clear : (flags : List Bool) → how_many flags ≡ 0 → flags ≡ replicate (length flags) false
 all_clear [] h = refl
-all_clear (true ∷ flags) h = absurd (omega (arith, h, sum_by-cons (λ (f : Bool). cond f 1 0) true flags))
+all_clear (true ∷ flags) h = absurd (omega (arith, h, sum_by-cons one true flags))
 all_clear (false ∷ flags) h =
-    ap (λ (l : List Bool). false ∷ l) (all_clear flags (omega (arith, h, sum_by-cons (λ (f : Bool). cond f 1 0) false flags)))
+    ap (λ (l : List Bool). false ∷ l) (all_clear flags (omega (arith, h, sum_by-cons one false flags)))
 
 -- ---- a row's flags by place
 
@@ -113,10 +116,10 @@ module _ (words : List ℕ) (count at : ℕ) (h : IsRow words count) (low : at <
 
   pub row_with : flag_at words at ≡ false → IsRow (set words (at / 64) (with_bit words at)) (count + 1)
   row_with off =
-      let more = sum_by-set (λ (f : Bool). cond f 1 0) (flags_of words) at true false (omega (arith, low, length-flags words)) in
+      let more = sum_by-set one (flags_of words) at true false (omega (arith, low, length-flags words)) in
       let was = ap one (flag words at low ∙ off) in
-      let same : count_by (λ (f : Bool). f) (flags_of (set words (at / 64) (with_bit words at))) ≡ count_by (λ (f : Bool). f) (set (flags_of words) at true) =
-      ap (count_by (λ (f : Bool). f)) flags_with in
+      let same : how_many (flags_of (set words (at / 64) (with_bit words at))) ≡ how_many (set (flags_of words) at true) =
+      ap how_many flags_with in
       record {
         size = length-set words (at / 64) (with_bit words at) ∙ h.size;
         fit =
@@ -137,10 +140,10 @@ module _ (words : List ℕ) (count at : ℕ) (h : IsRow words count) (low : at <
 
   pub row_without : flag_at words at ≡ true → (1 ≤ count) × IsRow (set words (at / 64) (without_bit words at)) (count - 1)
   row_without on =
-      let less = sum_by-set (λ (f : Bool). cond f 1 0) (flags_of words) at false false (omega (arith, low, length-flags words)) in
+      let less = sum_by-set one (flags_of words) at false false (omega (arith, low, length-flags words)) in
       let was = ap one (flag words at low ∙ on) in
-      let same : count_by (λ (f : Bool). f) (flags_of (set words (at / 64) (without_bit words at))) ≡ count_by (λ (f : Bool). f) (set (flags_of words) at false) =
-      ap (count_by (λ (f : Bool). f)) flags_without in (
+      let same : how_many (flags_of (set words (at / 64) (without_bit words at))) ≡ how_many (set (flags_of words) at false) =
+      ap how_many flags_without in (
         omega (arith, h.count, less, was),
         record {
           size = length-set words (at / 64) (without_bit words at) ∙ h.size;
@@ -180,7 +183,7 @@ flags_none = flags_zero (replicate row_words 0) (zeros row_words)
 pub row_none : IsRow (replicate row_words 0) 0
 row_none = record {
   size = length-replicate {A = ℕ} row_words 0;
-  count = sym (ap (count_by (λ (f : Bool). f)) flags_none ∙ none_set channel_places);
+  count = sym (ap how_many flags_none ∙ none_set channel_places);
   fit = λ i. omega (arith, zeros row_words i);
   no_more = λ at past. zero_flag (replicate row_words 0) at (zeros row_words (at / 64));
 }
@@ -202,7 +205,7 @@ module _ (words : List ℕ) (count : ℕ) (h : IsRow words count) where
   clear_by_count none = all_clear (flags_of words) (omega (arith, h.count, none)) ∙ ap (λ (n : ℕ). replicate n false) (length-flags words)
 
   pub count_by_clear : flags_of words ≡ replicate channel_places false → count ≡ 0
-  count_by_clear clear = h.count ∙ ap (count_by (λ (f : Bool). f)) clear ∙ none_set channel_places
+  count_by_clear clear = h.count ∙ ap how_many clear ∙ none_set channel_places
 
 -- ---- rows that are the same
 

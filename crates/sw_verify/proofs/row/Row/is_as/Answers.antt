@@ -30,6 +30,8 @@ returns c =
       λ h. sym c.self.view_is ∙ ap flags_of (same_words words kept (sym tests ∙ h)) ∙ c.kept.view_is,
       λ e.
           let same = c.self.view_is ∙ e ∙ sym c.kept.view_is in
-          let one = one_row words kept c.self.invariant.size whole c.self.invariant.no_more c.kept.invariant.no_more c.self.invariant.fit c.kept.invariant.fit same in
+          let own = c.self.invariant in
+          let other = c.kept.invariant in
+          let one = one_row words kept own.size whole own.no_more other.no_more own.fit other.fit same in
           tests ∙ ap (pointwise eqb words) (sym one) ∙ words_self words,
     )
