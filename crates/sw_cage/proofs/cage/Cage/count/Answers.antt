@@ -63,5 +63,6 @@ invariant_of-self-2 g c =
     let ready = counted _ at f.slot f.ticket f.meter.1 c.in-Ok.reading (accounts_of c.take_in.new.slots) c.take_in.new.out c.push_reserved.new.self.items _
     c.self.invariant is awaited
     out c.take_in.ensures.cards c.take_in.ensures.out items in
-    let room : reads at.course.items ≤ vec_capacity c.push_reserved.new.self = omega (arith, room_at _ at _ c.self.invariant is, c.push_reserved.ensures.capacity) in
+    let room : reads at.course.items ≤ vec_capacity c.push_reserved.new.self =
+    omega (arith, room_at _ at _ c.self.invariant is, c.push_reserved.ensures.capacity) in
     go_kept _ _ at.course (at.index + 1) _ _ ready.held ready.go room (c.go_past.ensures.goes at is) refl refl
