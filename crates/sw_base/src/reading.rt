@@ -139,12 +139,12 @@ fn write_digits(n: u64, count: usize, buffer: &mut [u8; 32], start: usize)
 {
     let mut left = n;
     let mut end = start + count;
-    while start + 1 < end {
+    for _pair in 0..count / 2 {
         end -= 2;
         write_pair((left % 100) as usize, buffer, end);
         left /= 100;
     }
-    if start < end {
+    if count % 2 == 1 {
         buffer[start] = b'0' + (left % 10) as u8;
     }
 }
