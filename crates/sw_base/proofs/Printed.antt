@@ -1,13 +1,15 @@
 -- Digits as they are printed.
 use Rattle.std.proofs.Common.{◌≡◌, ℕ, zero, suc, ◌+◌, ◌-◌, ◌*◌, ◌/◌, ◌%◌, ◌^◌, ◌<◌, ◌≤◌, List, [], ◌∷◌, ◌++◌, length, get_or, take, drop, set, refl, sym, ap}
-use Rattle.std.proofs.Common.{◌∙◌, inl, inr, arith, add-one}
+use Rattle.std.proofs.Common.{◌∙◌, inl, inr, arith, add-one, Bool, true, ◌&&◌, T, eqb, eqb→eq}
 use Rattle.std.specs.Prelude.{pos, negsuc, codes}
 use Rattle.std.proofs.Math.Nat.{div-one, div-div-eq-div-mul, pow-succ', div-le_self}
 use Rattle.std.proofs.lemmas.Bool.{cases_lt}
 use Rattle.std.specs.Fmt.{decimal}
-use Rattle.std.proofs.lemmas.List.{append_assoc, drop-set, length_push, length-append, length-drop, take_more_set, take_at, drop-set-lt, drop-drop, drop_at}
+use Rattle.std.proofs.lemmas.List.{append_assoc, drop-set, length_push, length-append, length-drop, take_more_set, take_at, drop-set-lt, drop-drop, drop_at, length-set, set_comm, take-append-drop}
 use Rattle.std.proofs.lemmas.List.{same_from_push, get_or_append_left}
 use Rattle.std.proofs.lemmas.Fmt.{decimal_digit, decimal_step, decimal_by_steps, decimal_nonempty, first_decimal, decimal_injective}
+use lib.Ieee.Fits.{and_l, and_r}
+use Rattle.sw_base.specs.declared.reading.TheConstants.{PAIRS}
 use Rattle.sw_base.specs.Reading.{last_digits, fixed, reading_text, IsBounded}
 use Rattle.sw_base.specs.declared.reading.Reading.{Reading}
 use Rattle.sw_base.specs.declared.reading.Reading.TheVariants.{Volts, Overload}
@@ -34,6 +36,39 @@ one_digit start end left buffer low high =
     let next : end - 1 + 1 ≡ end = omega arith in
     rw (k, last_digits_push, drop-set buffer (end - 1) (48 + left % 10) at, next, append_assoc) refl
 
+-- two digits are written before those behind them
+pub two_digits : (start end left : ℕ) (buffer : List ℕ) → start + 1 < end → end ≤ length buffer
+    → last_digits (end - 2 - start) (left / 100) ++ drop (end - 2) (set (set buffer (end - 2) (48 + left % 100 / 10)) (end - 2 + 1) (48 + left % 100 % 10))
+    ≡ last_digits (end - start) left ++ drop end buffer
+two_digits start end left buffer low high =
+    let ones : List ℕ = set buffer (end - 1) (48 + left % 10) in
+    let size : length ones ≡ length buffer = length-set buffer (end - 1) (48 + left % 10) in
+    let inner = one_digit start (end - 1) (left / 10) ones (omega arith) (omega arith) in
+    let a : end - 1 - 1 ≡ end - 2 = omega arith in
+    let b : left / 10 / 10 ≡ left / 100 = omega arith in
+    let c : left / 10 % 10 ≡ left % 100 / 10 = omega arith in
+    let d : left % 10 ≡ left % 100 % 10 = omega arith in
+    let e : end - 1 ≡ end - 2 + 1 = omega arith in
+    let swapped : set ones (end - 2) (48 + left % 100 / 10) ≡ set (set buffer (end - 2) (48 + left % 100 / 10)) (end - 2 + 1) (48 + left % 100 % 10) =
+    rw (d, e) (set_comm buffer (end - 2 + 1) (end - 2) (48 + left % 100 % 10) (48 + left % 100 / 10) (λ x. omega arith)) in
+    rw (← swapped) ((rw (a, b, c) at inner) ∙ one_digit start end left buffer (omega arith) high)
+
+-- the two digits of each number below 100 stand in the row of pairs
+abbrev are_pairs : ℕ → Bool
+are_pairs zero = true
+are_pairs (suc p) = (eqb (get_or PAIRS (p * 2) 0) (48 + p / 10) && eqb (get_or PAIRS (p * 2 + 1) 0) (48 + p % 10)) && are_pairs p
+
+pairs_below : (n p : ℕ) → T (are_pairs n) → p < n → (get_or PAIRS (p * 2) 0 ≡ 48 + p / 10) × (get_or PAIRS (p * 2 + 1) 0 ≡ 48 + p % 10)
+pairs_below zero p t h = absurd (omega arith)
+pairs_below (suc n) p t h =
+    elim (cases_lt p n) [
+      | inl less ↦ pairs_below n p (and_r _ (are_pairs n) t) less
+      | inr more ↦ let e : p ≡ n = omega arith in let a = and_l _ (are_pairs n) t in rw e (eqb→eq _ _ (and_l _ _ a), eqb→eq _ _ (and_r _ _ a))
+    ]
+
+pub pair_at : (p : ℕ) → p < 100 → (get_or PAIRS (p * 2) 0 ≡ 48 + p / 10) × (get_or PAIRS (p * 2 + 1) 0 ≡ 48 + p % 10)
+pair_at p h = pairs_below 100 p tt h
+
 -- a number is its last digits, as many as it has
 pub last_digits-decimal : (n : ℕ) → n < 2 ^ 64 → last_digits (length (decimal n)) n ≡ decimal n
 last_digits-decimal n small =
@@ -52,6 +87,15 @@ length-decimal_step n from small = ap length (decimal_step n from small) ∙ len
 
 pub length-decimal_digit : (n : ℕ) → n < 10 → length (decimal n) ≡ 1
 length-decimal_digit n below = ap length (decimal_digit n below)
+
+-- a number of one digit is put in its place
+pub one_alone : (old : List ℕ) (start n : ℕ) → start < length old → n < 10 → set old start (48 + n) ≡ take start old ++ (decimal n ++ drop (start + 1) old)
+one_alone old start n within below =
+    let new : List ℕ = set old start (48 + n) in
+    let front : take (start + 1) new ≡ take start old ++ (48 + n) ∷ [] = take_more_set old start (48 + n) within in
+    let back : drop (start + 1) new ≡ drop (start + 1) old = drop-set-lt (start + 1) old start (48 + n) (omega arith) in
+    sym (take-append-drop (start + 1) new)
+    ∙ rw (front, back, decimal_digit n below) (append_assoc (take start old) ((48 + n) ∷ []) (drop (start + 1) old))
 
 -- a point put behind what was written, and digits behind the point
 pub one_point : (old front digits more : List ℕ) (p places : ℕ) → length front + length digits ≡ p → p < length old

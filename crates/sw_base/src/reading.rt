@@ -1,9 +1,15 @@
 //! Readings and numbers as text.
 
-ghost use Rattle.std.specs.Prelude.{◌≡◌, ◌+◌, ◌<◌, ◌≤◌, ◌∷◌, ◌++◌, length, take, drop, decimal, if◌then◌else◌};
+ghost use Rattle.std.specs.Prelude.{◌≡◌, ◌+◌, ◌/◌, ◌%◌, ◌<◌, ◌≤◌, ◌∷◌, ◌++◌, length, take, drop, set, decimal};
+ghost use Rattle.std.specs.Prelude.{if◌then◌else◌};
 ghost use Rattle.std.specs.Fmt.{signed_decimal, sign_text};
 ghost use Rattle.sw_base.specs.declared.reading.Reading.{Reading as Shown};
 ghost use Rattle.sw_base.specs.Reading.{last_digits, fixed, reading_text, IsBounded};
+
+/// The numbers below 100, each with its two digits.
+static PAIRS: [u8; 200] =
+    *b"0001020304050607080910111213141516171819202122232425262728293031323334353637383940414243444546474849\
+5051525354555657585960616263646566676869707172737475767778798081828384858687888990919293949596979899";
 
 /// What a meter measured.
 #[derive(Clone, Copy, Debug, PartialEq, Eq)]
@@ -103,6 +109,10 @@ fn write_number(n: u64, buffer: &mut [u8; 32], start: usize) -> usize
     ensures end { result ≡ start + length (decimal n) }
     ensures within { result ≤ start + 20 }
 {
+    if n < 10 {
+        buffer[start] = b'0' + n as u8;
+        return start + 1;
+    }
     let count = width(n);
     write_digits(n, count, buffer, start);
     start + count
@@ -122,16 +132,30 @@ fn width(n: u64) -> usize
     count
 }
 
-/// Writes the last `count` digits of `n` from `start` on.
+/// Writes the last `count` digits of `n` from `start` on, two at a time from the end.
 fn write_digits(n: u64, count: usize, buffer: &mut [u8; 32], start: usize)
     requires { start + count ≤ 32 }
     ensures { buffer.new ≡ take start buffer.old ++ (last_digits count n ++ drop (start + count) buffer.old) }
 {
     let mut left = n;
     let mut end = start + count;
-    while start < end {
-        end -= 1;
-        buffer[end] = b'0' + (left % 10) as u8;
-        left /= 10;
+    for _pair in 0..count / 2 {
+        end -= 2;
+        write_pair((left % 100) as usize, buffer, end);
+        left /= 100;
     }
+    if count % 2 == 1 {
+        buffer[start] = b'0' + (left % 10) as u8;
+    }
+}
+
+/// Writes the two digits of a number below 100.
+fn write_pair(pair: usize, buffer: &mut [u8; 32], at: usize)
+    requires { (pair < 100) × (at + 2 ≤ 32) }
+    ensures { buffer.new ≡ set (set buffer.old at (48 + pair / 10)) (at + 1) (48 + pair % 10) }
+{
+    let from = pair * 2;
+    let (tens, ones) = (PAIRS[from], PAIRS[from + 1]);
+    buffer[at] = tens;
+    buffer[at + 1] = ones;
 }

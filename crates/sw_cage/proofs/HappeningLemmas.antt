@@ -1,7 +1,6 @@
 -- What happens to a running scan, and the cage stays good.
 use Rattle.std.proofs.Common.{◌≡◌, ◌≢◌, ℕ, ◌+◌, ◌-◌, ◌<◌, ◌≤◌, true, List, [], ◌∷◌, ◌++◌, length, drop, Option, Some, None, slice_set, refl, sym, ap, ◌∙◌, subst}
-use Rattle.std.proofs.Common.{arith, is_some, length-append, Result, Ok, if◌then◌else◌}
-use Rattle.std.specs.Result.{is_ok}
+use Rattle.std.proofs.Common.{arith, is_some, length-append}
 use Rattle.sw_base.specs.Limits.{most_slots, most_channels}
 use mathlib.Core.Path.{fun_ext}
 use Rattle.sw_base.specs.Layout.{Channel, Layout, slot_at, has_meter}
@@ -283,7 +282,3 @@ taken_scan number (Some at) s t h = (at, (refl, h))
 
 pub room_for : (p : CageSeen) (s : ℕ) (t : Ticket) (room : ℕ) → IsGoodWithRoom p room → TakesReturnThere p.number p.scan s t → length p.readings < room
 room_for p s t room k h = let w = taken_scan p.number p.scan s t h in room_left p w.0 s t room k w.1.0 w.1.1
-
-pub pushed : {T E : Type 0} (r : Result T E) (t : T) (xs new : List Reading) (x : Reading) → new ≡ (if is_ok r then xs ++ x ∷ [] else xs) → r ≡ Ok t
-    → new ≡ xs ++ x ∷ []
-pushed r t xs new x e f = e ∙ ap (λ q. if is_ok q then xs ++ x ∷ [] else xs) f

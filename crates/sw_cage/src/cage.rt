@@ -474,7 +474,7 @@ impl<R: Relay, M: Meter> Cage<R, M> {
             self.scan = None;
             return Taken::Fault;
         };
-        self.readings.push(reading).unwrap();
+        self.readings.push_reserved(reading);
         go_past(&mut self.slots, &mut self.out, &mut self.scan, self.number)
     }
 }

@@ -16,6 +16,9 @@ use std::alloc::{AllocError, Global};
 use sw_base::{ARM_LAYERS, ARMS, ArmLayer, LayerName, ScpiError, Source};
 use sw_trigger::{Layer, Settings};
 
+/// For how many steps there is room at first, so that a short code takes memory once.
+const ROOM: usize = 64;
+
 /// The code of a scan: one loop for each ARM layer, and one for whole rounds of the list. `OutOfMemory` comes where the
 /// steps found no room, and no other error.
 pub fn compile(alloc: Global, settings: &Settings) -> Result<Code, ScpiError>
@@ -36,7 +39,7 @@ fn all_steps(alloc: Global, settings: &Settings) -> Result<Vec<Step>, AllocError
     ensures range { IfOk result (λ steps. IsProgramInRange (compiled settings.now)) }
     ensures unfolds { IfOk result (λ steps. Unfolds (compiled settings.now).steps (agenda settings.now)) }
 {
-    let mut steps = Vec::new(alloc);
+    let mut steps = Vec::with_capacity(alloc, ROOM)?;
     put_arms(&mut steps, settings, &ARMS, 0)?;
     steps.push(Step::Halt)?;
     Ok(steps)

@@ -77,8 +77,8 @@ impl<R: Relay, M: Meter> Core<R, M> {
         let running = self.cage.is_running();
         if self.opc_waits && !running {
             self.status.operation_complete();
+            self.opc_waits = false;
         }
-        self.opc_waits = self.opc_waits && running;
         let bits = awaited_bits(self.cage.awaited());
         self.status.set_condition(StatusGroup::Operation, bits);
         self.status.end_event();

@@ -20,6 +20,9 @@ use sw_card::{Meter, Relay};
 /// For how many bytes there is room in a short answer, so that the line it begins takes memory once, in most cases.
 const ROOM: usize = 64;
 
+/// For how many bytes there is room for each reading: one below ten volts, and a comma.
+const READING_ROOM: usize = 12;
+
 /// A short answer.
 fn short(alloc: Global, text: &[u8]) -> Result<Sequence<u8>, AllocError>
     ensures { IfOk result (λ answer. answer ≡ text.now) }
@@ -142,7 +145,7 @@ pub fn all_entries(alloc: Global, errors: &[ScpiError]) -> Result<Sequence<u8>, 
 pub fn all_readings(alloc: Global, readings: &[Reading]) -> Result<Sequence<u8>, AllocError>
     ensures { IfOk result (λ text. text ≡ join_with_byte 44 (map reading_text readings.now)) }
 {
-    let mut text = Vec::with_capacity(alloc, readings.len())?;
+    let mut text = Vec::with_capacity(alloc, readings.len().saturating_mul(READING_ROOM))?;
     for reading in readings {
         separate(&mut text)?;
         add_reading(&mut text, *reading)?;

@@ -29,6 +29,12 @@ arises-same now =
     let none : register 8 test ≡ 0 = register-none 8 test (λ k h. elim (cases_Bool (has_bit now k)) [ inl e ↦ rw e refl | inr e ↦ rw e refl ]) in
     rw none refl
 
+-- where no other bits ask for service than before, an event changes nothing
+pub ended-same : (s : StatusSeen) → asking_of s ≡ s.asking → event_ended s ≡ s
+ended-same s e =
+    ap (λ (a : ℕ). record s { asking = a; requests = counted_of s.requests s.asking a }) e
+    ∙ ap (λ (b : Bool). record s { requests = if b then raised s.requests else s.requests }) (arises-same s.asking)
+
 pub counted-most : (n before now : ℕ) → counted_of n before now ≤ n + 1
 counted-most n before now = elim (cases_Bool (arises before now)) [ inl e ↦ rw e (omega arith) | inr e ↦ rw e (omega arith) ]
 

@@ -303,6 +303,9 @@ impl Status {
         ensures { self.new ≡ event_ended self.old }
     {
         let asking = self.asking_now();
+        if asking == self.asking {
+            return;
+        }
         self.requests = counted(self.requests, self.asking, asking);
         self.asking = asking;
     }

@@ -266,16 +266,16 @@ module _ (layout : Layout) (start b m : Channels) (l : Ledger) (s : Shows layout
       cases_Bool' true = inl refl
       cases_Bool' false = inr refl
 
-  pub shows_with : CanCloseOne layout b c → (at g : ℕ) → at ≡ place c → g ≡ group_of layout c
+  pub shows_with : CanCloseOne layout b c → (row : List Bool) (g : ℕ) → row ≡ slice_set l.mine (place c) true → g ≡ group_of layout c
       → Shows layout start (with_channel c b) (with_channel c m) (record {
         found = l.found;
-        mine = slice_set l.mine at true;
+        mine = row;
         groups = slice_set l.groups g true;
       })
-  shows_with can at g e f =
-      subst (λ (a : ℕ). Shows layout start (with_channel c b) (with_channel c m) (record {
+  shows_with can row g e f =
+      subst (λ (r : List Bool). Shows layout start (with_channel c b) (with_channel c m) (record {
         found = l.found;
-        mine = slice_set l.mine a true;
+        mine = r;
         groups = slice_set l.groups g true;
       })) (sym e)
       (subst (λ (a : ℕ). Shows layout start (with_channel c b) (with_channel c m) (record {
@@ -306,12 +306,12 @@ module _ (layout : Layout) (start b m : Channels) (l : Ledger) (s : Shows layout
       or_second true d h = refl
       or_second false d h = h
 
-  pub shows_without : m c ≡ true → (at g : ℕ) → at ≡ place c → g ≡ group_of layout c
-      → Shows layout start (without c b) (without c m) (record { found = l.found; mine = slice_set l.mine at false; groups = slice_set l.groups g false })
-  shows_without own at g e f =
-      subst (λ (a : ℕ). Shows layout start (without c b) (without c m) (record {
+  pub shows_without : m c ≡ true → (row : List Bool) (g : ℕ) → row ≡ slice_set l.mine (place c) false → g ≡ group_of layout c
+      → Shows layout start (without c b) (without c m) (record { found = l.found; mine = row; groups = slice_set l.groups g false })
+  shows_without own row g e f =
+      subst (λ (r : List Bool). Shows layout start (without c b) (without c m) (record {
         found = l.found;
-        mine = slice_set l.mine a false;
+        mine = r;
         groups = slice_set l.groups g false;
       })) (sym e)
       (subst (λ (a : ℕ). Shows layout start (without c b) (without c m) (record {

@@ -3,7 +3,7 @@ pub mod Checked
 pub mod Throughout
 pub mod First
 pub mod Nesting
-pub mod Rows
+pub mod Flags
 pub mod Ledgers
 pub mod Looking
 pub mod Whole

@@ -2,6 +2,7 @@ pub mod Channels
 pub mod Sound
 pub mod Seen
 pub mod Marks
+pub mod Rows
 pub mod Check
 pub mod Moments
 pub mod Nest

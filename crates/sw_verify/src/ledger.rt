@@ -12,14 +12,15 @@ ghost use Rattle.sw_verify.specs.Ledger.{Shows, is_taken};
 use crate::layout::Layout;
 use crate::marks::{channel_marks, group_marks, place};
 use crate::refusal::Refusal;
-use sw_base::{CHANNEL_PLACES, Chan};
+use crate::row::Row;
+use sw_base::Chan;
 use sw_channel::Position;
 
 /// What was closed at the start, what the code closed since, and the groups of both.
 #[derive(Drop)]
 pub struct Ledger {
-    found: [bool; CHANNEL_PLACES],
-    pub mine: [bool; CHANNEL_PLACES],
+    found: Row,
+    pub mine: Row,
     groups: [bool; 256],
 }
 
@@ -29,7 +30,7 @@ impl Ledger {
     {
         Ledger {
             found: channel_marks(closed),
-            mine: [false; CHANNEL_PLACES],
+            mine: Row::new(),
             groups: group_marks(layout, closed),
         }
     }
@@ -81,7 +82,7 @@ impl Ledger {
         if self.is_taken(at, group) {
             return Err(Refusal::GroupClash);
         }
-        self.mine[at] = true;
+        self.mine.set(at);
         self.groups[usize::from(group)] = true;
         Ok(())
     }
@@ -94,10 +95,10 @@ impl Ledger {
             → Shows layout.now start b m self.old → m c ≡ false)) }
     {
         let at = place(c);
-        if !self.mine[at] {
+        if !self.mine.has(at) {
             return Err(Refusal::NotClosed);
         }
-        self.mine[at] = false;
+        self.mine.clear(at);
         self.groups[usize::from(layout.group(c))] = false;
         Ok(())
     }
@@ -106,6 +107,6 @@ impl Ledger {
         requires { at < channel_places }
         ensures { result ≡ is_taken self.now at group }
     {
-        self.found[at] || self.mine[at] || (group != 0 && self.groups[usize::from(group)])
+        self.found.has(at) || self.mine.has(at) || (group != 0 && self.groups[usize::from(group)])
     }
 }

@@ -27,6 +27,7 @@ mod nest;
 mod plan;
 mod ready;
 mod refusal;
+mod row;
 mod snapshot;
 mod sources;
 mod tally;

@@ -1,6 +1,6 @@
 //! Whether each step of a code may be done.
 
-ghost use Rattle.std.specs.Prelude.{◌≡◌, ◌↔◌, [], true, List, Bool, IsTrue, IfOk, IfSome, IfNone};
+ghost use Rattle.std.specs.Prelude.{◌≡◌, [], true, List, Bool, IfOk, IfSome, IfNone};
 ghost use Rattle.sw_verify.specs.Channels.{Channels, none, is_among};
 ghost use Rattle.sw_verify.specs.Nest.{StepsRight};
 ghost use Rattle.sw_verify.specs.Stops.{StopsBy};
@@ -10,7 +10,7 @@ use crate::layout::Layout;
 use crate::ledger::Ledger;
 use crate::refusal::Refusal;
 use std::alloc::{AllocError, Global};
-use sw_base::{CHANNEL_PLACES, Chan};
+use sw_base::Chan;
 use sw_code::Step;
 
 /// Why the first step that may not be done is refused, if there is one: NoChannel, GroupClash, NotClosed or LeftClosed.
@@ -31,13 +31,13 @@ pub fn look(
     let mut saved = Vec::new(alloc);
     for i in 0..steps.len() {
         match steps[i] {
-            Step::Set(_, _) => saved.insert(0, ledger.mine)?,
+            Step::Set(_, _) => saved.insert(0, ledger.mine.keep(alloc)?)?,
             Step::Loop(_, _) => {
                 if saved.is_empty() {
                     return Ok(Some(Refusal::LeftClosed));
                 }
                 let before = saved.remove(0);
-                if !is_same(&ledger.mine, &before) {
+                if !ledger.mine.is_as(&before) {
                     return Ok(Some(Refusal::LeftClosed));
                 }
             }
@@ -52,7 +52,7 @@ pub fn look(
                 }
             }
             Step::Halt => {
-                if is_same(&ledger.mine, &[false; CHANNEL_PLACES]) {
+                if ledger.mine.is_clear() {
                     return Ok(None);
                 }
                 return Ok(Some(Refusal::LeftClosed));
@@ -61,10 +61,4 @@ pub fn look(
         }
     }
     Ok(None)
-}
-
-fn is_same(row: &[bool; CHANNEL_PLACES], other: &[bool; CHANNEL_PLACES]) -> bool
-    ensures { IsTrue result ↔ (row.now ≡ other.now) }
-{
-    row == other
 }

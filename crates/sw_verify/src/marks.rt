@@ -6,15 +6,16 @@ ghost use Rattle.sw_code.specs.Range.{IsInChannelRange};
 ghost use Rattle.sw_verify.specs.Marks.{place, ChannelMarks, GroupMarks};
 
 use crate::layout::Layout;
-use sw_base::{CHANNEL_PLACES, Chan};
+use crate::row::Row;
+use sw_base::Chan;
 
-pub fn channel_marks(channels: &[Chan]) -> [bool; CHANNEL_PLACES]
+pub fn channel_marks(channels: &[Chan]) -> Row
     ensures marks { ChannelMarks channels.now result }
     ensures size { length result ≡ channel_places }
 {
-    let mut marks = [false; CHANNEL_PLACES];
+    let mut marks = Row::new();
     for c in channels {
-        marks[place(*c)] = true;
+        marks.set(place(*c));
     }
     marks
 }

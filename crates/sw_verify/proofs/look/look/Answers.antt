@@ -1,11 +1,11 @@
-use Rattle.std.proofs.Common.{◌≡◌, ◌+◌, ◌∷◌, ℕ, get_or, ⊎_elim, length, refl, ap, sym, ◌∙◌}
+use Rattle.std.proofs.Common.{◌≡◌, ◌+◌, ◌∷◌, ℕ, get_or, ⊎_elim, length, ap, sym, ◌∙◌}
 use Rattle.std.proofs.lemmas.Bool.{both_ways}
 use Rattle.sw_base.specs.declared.terms.LayerName.{LayerName}
 use Rattle.sw_code.specs.declared.code.Step.TheVariants as step
 use Rattle.sw_trigger.proofs.Awaiting.{listed_from_test}
 use Rattle.sw_verify.proofs.Looking.{next_step, popped, after_wait, after_timer, after_pause, after_read, after_set, after_close, close_stops, after_open, open_stops, moved}
 use Rattle.sw_verify.proofs.Looking.{loop_stops, after_loop, halt_right, halt_stops}
-use Rattle.sw_verify.proofs.look.look.Goals.{in-Set+in_ok-insert-in-Set, in-Loop+else-is_empty+else-not-is_same, in-Close+in_default, in-Open+in_default-open}
+use Rattle.sw_verify.proofs.look.look.Goals.{in-Set+in_ok-keep-in-Set+in_ok-insert-in-Set, in-Loop+else-is_empty+else-not-is_as, in-Close+in_default, in-Open+in_default-open}
 use Rattle.sw_verify.proofs.look.look.Goals.{in-Wait}
 use Rattle.sw_verify.proofs.look.look.Goals as goal
 
@@ -25,8 +25,8 @@ returns-in-Err-open-clause-stops c =
     open_stops c.args.layout.now c.args.closed.now steps i c.loop-i.ledger c.loop-i.saved.items c.loop-i.invariant c.in-Open.p c.in-Err-open.wrong e
     c.in-Err-open.ensures.refused
 
-pub returns-then-not-is_same-clause-stops : goal.returns-then-not-is_same-clause-stops
-returns-then-not-is_same-clause-stops c =
+pub returns-then-not-is_as-clause-stops : goal.returns-then-not-is_as-clause-stops
+returns-then-not-is_as-clause-stops c =
     let steps = c.args.steps.now in
     let i = c.loop-i.i in
     let rows = c.loop-i.saved.items in
@@ -35,15 +35,15 @@ returns-then-not-is_same-clause-stops c =
     loop_stops c.args.layout.now c.args.closed.now steps i c.loop-i.ledger rows c.loop-i.invariant c.in-Loop.field-0 c.in-Loop.field-1 c.remove-before.result
     c.remove-before.new.self.items e
     (popped rows c.remove-before.new.self.items c.remove-before.result some c.remove-before.ensures.value c.remove-before.ensures.items)
-    (λ e. both_ways c.is_same.result c.if-not-is_same.true (c.is_same.ensures.1 e))
+    (λ e. both_ways c.is_as.result c.if-not-is_as.true (c.is_as.ensures.1 e))
 
-pub returns-then-is_same-clause-right : goal.returns-then-is_same-clause-right
-returns-then-is_same-clause-right c =
+pub returns-then-is_clear-clause-right : goal.returns-then-is_clear-clause-right
+returns-then-is_clear-clause-right c =
     let steps = c.args.steps.now in
     let i = c.loop-i.i in
     let e = next_step steps i step.Halt _ c.loop-i-test.true c.in-Halt.is in
     halt_right c.args.layout.now c.args.closed.now steps i c.loop-i.ledger c.loop-i.saved.items c.loop-i.invariant e
-    (c.is_same-in-Halt.ensures.0 c.if-is_same.true)
+    (c.is_clear.ensures.0 c.if-is_clear.true)
 
 pub returns-in-Halt-clause-stops : goal.returns-in-Halt-clause-stops
 returns-in-Halt-clause-stops c =
@@ -51,7 +51,7 @@ returns-in-Halt-clause-stops c =
     let i = c.loop-i.i in
     let e = next_step steps i step.Halt _ c.loop-i-test.true c.in-Halt.is in
     halt_stops c.args.layout.now c.args.closed.now steps i c.loop-i.ledger c.loop-i.saved.items c.loop-i.invariant e (λ d.
-    both_ways c.is_same-in-Halt.result c.if-is_same.false (c.is_same-in-Halt.ensures.1 d))
+    both_ways c.is_clear.result c.if-is_clear.false (c.is_clear.ensures.1 d))
 
 pub loop-i-preserved : goal.loop-i-preserved
 loop-i-preserved c =
@@ -65,17 +65,17 @@ loop-i-preserved c =
     let now = c.match-steps-i.ledger in
     let left = c.match-steps-i.saved.items in
     elim c.match-steps-i.branch [
-      | in-Set+in_ok-insert-in-Set w ↦ moved layout closed steps (i + 1) ledger now (ledger.mine ∷ rows) left w.ledger-is (ap (λ v. v.items) w.saved-is
+      | in-Set+in_ok-keep-in-Set+in_ok-insert-in-Set w ↦ moved layout closed steps (i + 1) ledger now (w.in_ok-keep-in-Set.field-0 ∷ rows) left w.ledger-is (ap (λ v. v.items) w.saved-is
           ∙ w.in_ok-insert-in-Set.ensures.items)
-          (after_set layout closed steps i ledger rows p w.in-Set.field-0 w.in-Set.field-1 ledger.mine refl
+          (after_set layout closed steps i ledger rows p w.in-Set.field-0 w.in-Set.field-1 w.in_ok-keep-in-Set.field-0 w.in_ok-keep-in-Set.ensures
           (next_step steps i (step.Set w.in-Set.field-0 w.in-Set.field-1) _ c.loop-i-test.true w.in-Set.is))
-      | in-Loop+else-is_empty+else-not-is_same w ↦
+      | in-Loop+else-is_empty+else-not-is_as w ↦
           let some = listed_from_test w.is_empty.result _ (length rows) w.is_empty.ensures w.if-is_empty.false (sym c.loop-i.saved.ok.0) in
           moved layout closed steps (i + 1) ledger now w.remove-before.new.self.items left w.ledger-is (ap (λ v. v.items) w.saved-is)
           (after_loop layout closed steps i ledger rows p w.in-Loop.field-0 w.in-Loop.field-1 w.remove-before.result w.remove-before.new.self.items
           (next_step steps i (step.Loop w.in-Loop.field-0 w.in-Loop.field-1) _ c.loop-i-test.true w.in-Loop.is)
           (popped rows w.remove-before.new.self.items w.remove-before.result some w.remove-before.ensures.value w.remove-before.ensures.items)
-          (w.is_same.ensures.0 w.if-not-is_same.false))
+          (w.is_as.ensures.0 w.if-not-is_as.false))
       | in-Close+in_default w ↦ moved layout closed steps (i + 1) w.close.new.self now rows left w.ledger-is (ap (λ v. v.items) w.saved-is)
           (after_close layout closed steps i ledger rows p w.in-Close.p w.close.new.self
           (next_step steps i (step.Close w.in-Close.p) _ c.loop-i-test.true w.in-Close.is) w.in_default.ensures.closed)

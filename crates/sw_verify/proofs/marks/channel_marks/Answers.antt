@@ -1,4 +1,4 @@
-use Rattle.std.proofs.Common.{◌<◌, false, arith}
+use Rattle.std.proofs.Common.{◌<◌, Bool, false, List, length, get_or, ap, ◌∙◌, arith}
 use Rattle.std.proofs.lemmas.List.{get_or-replicate, length-replicate}
 use Rattle.sw_base.specs.Limits.{channel_places}
 use Rattle.sw_verify.specs.Marks.{place}
@@ -6,6 +6,7 @@ use Rattle.sw_verify.proofs.marks.channel_marks.Goals as goal
 
 pub loop-c-init : goal.loop-c-init
 loop-c-init c = record {
-  marked = λ k w. let below : place k < channel_places = omega (arith, w.1, w.3) in get_or-replicate channel_places (place k) false false below;
-  size = length-replicate channel_places false;
+  marked = λ k w. let below : place k < channel_places = omega (arith, w.1, w.3) in
+      ap (λ (l : List Bool). get_or l (place k) false) c.new-marks.ensures ∙ get_or-replicate channel_places (place k) false false below;
+  size = ap (λ (l : List Bool). length l) c.new-marks.ensures ∙ length-replicate channel_places false;
 }

@@ -1,4 +1,5 @@
 use Rattle.std.proofs.Common.{◌≡◌, ◌<◌, true, false, ap, sym, ◌∙◌, arith}
+use Rattle.std.specs.Prelude.{slice_set}
 use Rattle.sw_base.specs.Layout.{is_present, group_of}
 use Rattle.sw_verify.specs.Marks.{place}
 use Rattle.sw_verify.specs.Ledger.{is_taken}
@@ -16,6 +17,6 @@ returns-clause-closed c = λ start b m s.
     ∙ sym c.is_taken.ensures ∙ c.if-is_taken.false in
     let can = free_can layout start b m l s c.args.c c.place-at.ensures.channel below there free in (
       can,
-      shows_with layout start b m l s c.args.c c.place-at.ensures.channel below can c.place-at.result c.from.result c.place-at.ensures.place (c.from.ensures
-          ∙ c.group-group.ensures),
+      shows_with layout start b m l s c.args.c c.place-at.ensures.channel below can c.set.new.self c.from.result (c.set.ensures
+          ∙ ap (λ a. slice_set l.mine a true) c.place-at.ensures.place) (c.from.ensures ∙ c.group-group.ensures),
     )

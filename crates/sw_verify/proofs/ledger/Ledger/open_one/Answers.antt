@@ -1,5 +1,5 @@
 use Rattle.std.proofs.Common.{◌≡◌, ◌<◌, true, false, ap, sym, ◌∙◌, arith}
-use Rattle.std.specs.Prelude.{slice_index_or}
+use Rattle.std.specs.Prelude.{slice_index_or, slice_set}
 use Rattle.sw_base.specs.Layout.{group_of}
 use Rattle.sw_verify.proofs.Ledgers.{tells_at, shows_without}
 use Rattle.sw_verify.proofs.ledger.Ledger.open_one.Goals as goal
@@ -11,8 +11,8 @@ returns-clause-opened c = λ start b m s.
     let below : group_of layout c.args.c < 256 = omega (arith, c.group.ensures) in
     let own : m c.args.c ≡ true =
     sym (tells_at start b m l.mine s.mine c.args.c c.place-at.ensures.channel) ∙ ap (λ a. slice_index_or l.mine a false) (sym c.place-at.ensures.place)
-    ∙ c.if-not-self-at.false in (
+    ∙ sym c.has.ensures ∙ c.if-not-has.false in (
       own,
-      shows_without layout start b m l s c.args.c c.place-at.ensures.channel below own c.place-at.result c.from.result c.place-at.ensures.place
-          (c.from.ensures ∙ c.group.ensures),
+      shows_without layout start b m l s c.args.c c.place-at.ensures.channel below own c.clear.new.self c.from.result (c.clear.ensures
+          ∙ ap (λ a. slice_set l.mine a false) c.place-at.ensures.place) (c.from.ensures ∙ c.group.ensures),
     )
