@@ -63,6 +63,14 @@ number_leads text a r d m b rest number s t u h n = record {
       (one_span is_blank m p.after tail b rest g u).1;
 }
 
+-- a number with no white space round it
+pub bare_leads : (text d rest : List ℕ) (number : Option ℕ) → text ≡ d ++ rest → AllPass is_digit d → 0 < length d
+    → StartsOff is_blank rest × StartsOff is_digit rest → MeansNumber d number → LeadsPart IsPadded ends_number MeansNumber text number rest
+bare_leads text d rest number e a h o n =
+    let s : StartsOff is_blank text = subst (λ (t : List ℕ). StartsOff is_blank t) (sym e) (digits-off d rest a h) in
+    number_leads text [] text d rest [] rest number (record { whole = refl; pass = tt; off = s }) (record { whole = e; pass = a; off = o.1 })
+    (record { whole = refl; pass = tt; off = o.0 }) h n
+
 pub number_none : (text a r : List ℕ) → Spans is_blank text a r → StartsOff is_digit r → LeadsNone IsPadded ends_number text
 number_none text a r s o = λ other tail e p q w.
     no_digits e (p.after ++ tail) r p.digits_only p.some o (digits_at text a r other tail e s p q w)

@@ -1,7 +1,7 @@
 //! From bytes to what the parts of a list mean, each read at the front of a text: numbers, channels and items.
 
-ghost use Rattle.std.specs.Prelude.{◌≡◌, ◌∷◌, ◌++◌, List, [], ℕ, IfSome, IfNone};
-ghost use Rattle.sw_base.specs.Text.{is_digit, StartsOff};
+ghost use Rattle.std.specs.Prelude.{◌≡◌, ◌-◌, ◌∷◌, ◌++◌, List, [], ℕ, true, Some, IfSome, IfNone};
+ghost use Rattle.sw_base.specs.Text.{is_blank, is_digit, StartsOff};
 ghost use Rattle.sw_channel.specs.Grammar.{WrittenChannel, plain, pair, one, range, IsPadded, IsChannel, IsItem};
 ghost use Rattle.sw_channel.specs.Meaning.{channel_numbered};
 ghost use Rattle.sw_channel.specs.Seen.{ends_number, ends_channel, ends_item, LeadsPart, LeadsNone, LeadsDigits};
@@ -36,8 +36,50 @@ fn read_digits(text: &[u8]) -> Option<(Option<u32>, &[u8])>
     }
 }
 
+/// Whether no number goes on here: nothing is there, or what is neither white space nor a digit.
+fn is_off(text: &[u8]) -> bool
+    ensures { result ≡ true → StartsOff is_blank text.now × StartsOff is_digit text.now }
+{
+    match text {
+        [] => true,
+        [b, ..] => *b > 32 && !is_digit(*b),
+    }
+}
+
+/// The digit at the front, and what follows it.
+fn read_digit(text: &[u8]) -> Option<(u32, &[u8])>
+    ensures { IfSome result (λ x. (d : ℕ) × (text.now ≡ d ∷ x.1.now) × (is_digit d ≡ true) × (x.0 ≡ d - 48)) }
+{
+    match text {
+        [b, rest @ ..] if is_digit(*b) => Some((u32::from(*b - b'0'), rest)),
+        _ => None,
+    }
+}
+
+/// The number of one to three digits at the front, where there is one and no white space round it; and what follows it.
+fn short_number(text: &[u8]) -> Option<(u32, &[u8])>
+    ensures { IfSome result (λ x. LeadsPart IsPadded ends_number MeansNumber text.now (Some x.0) x.1.now) }
+{
+    let (first, rest) = read_digit(text)?;
+    if is_off(rest) {
+        return Some((first, rest));
+    }
+    let (second, rest) = read_digit(rest)?;
+    let two = 10 * first + second;
+    if is_off(rest) {
+        return Some((two, rest));
+    }
+    let (third, rest) = read_digit(rest)?;
+    if is_off(rest) {
+        Some((10 * two + third, rest))
+    } else {
+        None
+    }
+}
+
 /// The number at the front with the white space round it, none of more than nine digits, and what follows it.
-fn read_number(text: &[u8]) -> Option<(Option<u32>, &[u8])>
+#[inline(never)]
+fn any_number(text: &[u8]) -> Option<(Option<u32>, &[u8])>
     ensures found { IfSome result (λ x. LeadsPart IsPadded ends_number MeansNumber text.now x.0 x.1.now) }
     ensures none { IfNone result (LeadsNone IsPadded ends_number text.now) }
 {
@@ -45,6 +87,17 @@ fn read_number(text: &[u8]) -> Option<(Option<u32>, &[u8])>
     let (value, rest) = read_digits(text)?;
     let (_, rest) = blanks(rest);
     Some((value, rest))
+}
+
+/// What `any_number` reads: a short number, as most are, in fewer steps.
+fn read_number(text: &[u8]) -> Option<(Option<u32>, &[u8])>
+    ensures found { IfSome result (λ x. LeadsPart IsPadded ends_number MeansNumber text.now x.0 x.1.now) }
+    ensures none { IfNone result (LeadsNone IsPadded ends_number text.now) }
+{
+    match short_number(text) {
+        Some((value, rest)) => Some((Some(value), rest)),
+        None => any_number(text),
+    }
 }
 
 /// The channel of these two numbers, where they are in range.
