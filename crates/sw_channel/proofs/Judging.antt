@@ -12,12 +12,12 @@ use Rattle.sw_base.specs.Memory.{Gives}
 use Rattle.sw_base.specs.declared.error.ScpiError.{ScpiError}
 use Rattle.sw_base.specs.declared.error.ScpiError.TheVariants.{InvalidExpression, DataOutOfRange, OutOfMemory, TooMuchData}
 use Rattle.std.specs.Option.{option_map}
-use Rattle.sw_channel.specs.Grammar.{WrittenChannel, ListItem, range, PositionItem, joined, single_each, IsItems, IsPositionItems, IsBracketed}
+use Rattle.sw_channel.specs.Grammar.{WrittenChannel, ListItem, one, range, PositionItem, joined, single_each, IsItems, IsPositionItems, IsBracketed}
 use Rattle.sw_channel.specs.Positions.{Position, alone}
 use Rattle.sw_channel.specs.PositionMeaning.{NamePositions, positions_judged}
 use Rattle.sw_channel.specs.Meaning.{channels_of, channels_between, count_between, towards, Mean, judged, judged_with, fitting, channels_judged}
 use Rattle.sw_channel.specs.Reading.{ListKind, channel_list, position_list, SpellsAs, IsNoListOf, IsRefusedAs, ReadsAs}
-use Rattle.sw_channel.specs.Seen.{channels_in, positions_in, MeansRun, LeadsTo, IsFound, Gathers}
+use Rattle.sw_channel.specs.Seen.{channels_in, positions_in, MeansChannel, MeansSingle, MeansRun, LeadsTo, IsFound, Gathers}
 use Rattle.sw_channel.specs.declared.run.Run.{Run}
 use Rattle.sw_channel.specs.declared.entry.Entry.{Entry}
 use Rattle.sw_channel.specs.declared.collect.Found.{Found}
@@ -282,6 +282,10 @@ leads_full f i is all run more e m h x =
     let l = length-between run.first.0 run.first.1 run.last.1 in
     let full : nat_le (length x.0 + length (channels_in run)) 512 ≡ false = lt-leb _ _ (omega (arith, h, m, x.1, l)) in
     let y = rw (e, full) at x.3 in sym y
+
+pub single_means : (chan : Option Channel) (w : WrittenChannel) → MeansChannel w chan → MeansSingle (one w) chan
+single_means None w h = rw (← h) refl
+single_means (Some c) w h = rw (← h) refl
 
 -- no item is left
 pub leads_over : {I V : Type 0} (judge : ℕ → I → Result (List V) ScpiError) (found : Result (Found V) ScpiError) (all : Result (List V) ScpiError)

@@ -65,11 +65,11 @@ number_leads text a r d m b rest number s t u h n = record {
 
 -- a number with no white space round it
 pub bare_leads : (text d rest : List ℕ) (number : Option ℕ) → text ≡ d ++ rest → AllPass is_digit d → 0 < length d
-    → StartsOff is_blank rest × StartsOff is_digit rest → MeansNumber d number → LeadsPart IsPadded ends_number MeansNumber text number rest
-bare_leads text d rest number e a h o n =
+    → StartsOff is_blank rest → StartsOff is_digit rest → MeansNumber d number → LeadsPart IsPadded ends_number MeansNumber text number rest
+bare_leads text d rest number e a h b o n =
     let s : StartsOff is_blank text = subst (λ (t : List ℕ). StartsOff is_blank t) (sym e) (digits-off d rest a h) in
-    number_leads text [] text d rest [] rest number (record { whole = refl; pass = tt; off = s }) (record { whole = e; pass = a; off = o.1 })
-    (record { whole = refl; pass = tt; off = o.0 }) h n
+    number_leads text [] text d rest [] rest number (record { whole = refl; pass = tt; off = s }) (record { whole = e; pass = a; off = o })
+    (record { whole = refl; pass = tt; off = b }) h n
 
 pub number_none : (text a r : List ℕ) → Spans is_blank text a r → StartsOff is_digit r → LeadsNone IsPadded ends_number text
 number_none text a r s o = λ other tail e p q w.
@@ -161,6 +161,12 @@ leads_double {W} {V} {M} {N} {P} {Q} {mark} {inner} {outer} {Means} {Meaning} f 
             s.only j.2.right tail j.1 j.2.second (ends_wider inner outer f.wider tail e) b
       ];
 }
+
+-- the same part, of which something else is known
+pub leads_known : {W M N : Type 0} {P : List ℕ → W → Type 0} {ends : ℕ → Bool} {Means : W → M → Type 0} {Known : W → N → Type 0} (text rest : List ℕ) (m : M)
+    (n : N) → LeadsPart P ends Means text m rest → ((w : W) → Means w m → Known w n) → LeadsPart P ends Known text n rest
+leads_known text rest m n l f =
+    record { front = l.front; written = l.written; part = l.part; means = f l.written l.means; whole = l.whole; only = l.only }
 
 -- ---- channels and items
 

@@ -1,15 +1,16 @@
 //! From what stands between the brackets of a list to the channels that it names, in one pass.
 
-ghost use Rattle.std.specs.Prelude.{◌≡◌, ◌≤◌, ◌∷◌, ◌++◌, List, [], Result, IfOk, OnOk, Some, Ok, Err};
+ghost use Rattle.std.specs.Prelude.{◌≡◌, ◌≤◌, ◌∷◌, ◌++◌, List, [], Result, IfOk, OnOk, IfSome, IfNone, Some, Ok, Err};
 ghost use Rattle.std.specs.Result.{result_map_both, ForOk};
 ghost use Rattle.sw_base.specs.Layout.{Channel};
 ghost use Rattle.sw_base.specs.Limits.{most_entries};
 ghost use Rattle.sw_base.specs.declared.error.ScpiError.{ScpiError as Error};
-ghost use Rattle.sw_channel.specs.Grammar.{ListItem};
+ghost use Rattle.sw_channel.specs.Grammar.{ListItem, IsItem};
 ghost use Rattle.sw_channel.specs.Meaning.{channels_judged};
-ghost use Rattle.sw_channel.specs.Seen.{channels_in, MeansRun, LeadsTo, IsFound, AnswersDue, GathersChannels};
+ghost use Rattle.sw_channel.specs.Seen.{ends_item, LeadsPart, channels_in, MeansSingle, MeansRun, LeadsTo, TakesItem};
+ghost use Rattle.sw_channel.specs.Seen.{IsFound, AnswersDue, GathersChannels};
 
-use crate::parse::read_item;
+use crate::parse::{read_item, short_item};
 use crate::run::Run;
 use std::alloc::{AllocError, Global};
 use sw_base::{Chan, LIST_ENTRIES, ScpiError, strip_prefix};
@@ -72,6 +73,51 @@ fn with_item(
     }
 }
 
+/// Adds the entry, unless there was no memory for those before it.
+pub fn push_found<T: Copy + Drop>(entries: &mut Result<Vec<T>, AllocError>, entry: T)
+    ensures { (front : List T) → IfOk entries.old (λ v. v.items ≡ front)
+        → IfOk entries.new (λ v. v.items ≡ front ++ entry ∷ []) }
+{
+    if let Ok(known) = entries
+        && let Err(e) = known.push(entry)
+    {
+        *entries = Err(e.into());
+    }
+}
+
+/// Adds what one more item names, where that is a channel or none that is right.
+fn add_channel(found: &mut Result<Found<Chan>, ScpiError>, chan: Option<Chan>)
+    requires { ForOk found.old (λ f. f.count ≤ most_entries) }
+    ensures taken { (i : ListItem) → MeansSingle i chan → TakesItem found.old i found.new }
+    ensures within { IfOk found.new (λ f. f.count ≤ most_entries) }
+{
+    if let Ok(known) = found {
+        match chan {
+            None => *found = Err(ScpiError::DataOutOfRange),
+            Some(chan) if known.count < LIST_ENTRIES => {
+                known.count += 1;
+                push_found(&mut known.entries, chan);
+            }
+            Some(_) => *found = Err(ScpiError::TooMuchData),
+        }
+    }
+}
+
+/// Takes the item at the front where it is a channel of short numbers, with a comma behind it; what follows that comma.
+fn take_short<'a>(found: &mut Result<Found<Chan>, ScpiError>, text: &'a [u8]) -> Option<&'a [u8]>
+    requires { ForOk found.old (λ f. f.count ≤ most_entries) }
+    ensures taken { IfSome result (λ rest.
+        LeadsPart IsItem ends_item (TakesItem found.old) text.now found.new (44 ∷ rest.now)) }
+    ensures none { IfNone result (found.new ≡ found.old) }
+    ensures within { IfOk found.new (λ f. f.count ≤ most_entries) }
+{
+    let Some((chan, rest)) = short_item(text) else {
+        return None;
+    };
+    add_channel(found, chan);
+    Some(rest)
+}
+
 /// Room for the entries of a list of this many bytes where none of its items is a range.
 pub fn room<T>(alloc: Global, bytes: usize) -> Result<Vec<T>, AllocError>
     ensures { IfOk result (λ v. v.items ≡ []) }
@@ -97,6 +143,10 @@ pub fn collect(alloc: Global, text: &[u8]) -> Result<Vec<Chan>, ScpiError>
         entries: room(alloc, text.len()),
     });
     'list: loop {
+        if let Some(others) = take_short(&mut found, rest) {
+            rest = others;
+            continue;
+        }
         match read_item(rest) {
             None => return Err(ScpiError::InvalidExpression),
             Some((run, after)) => {

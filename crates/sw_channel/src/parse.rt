@@ -5,7 +5,7 @@ ghost use Rattle.sw_base.specs.Text.{is_blank, is_digit, StartsOff};
 ghost use Rattle.sw_channel.specs.Grammar.{WrittenChannel, plain, pair, one, range, IsPadded, IsChannel, IsItem};
 ghost use Rattle.sw_channel.specs.Meaning.{channel_numbered};
 ghost use Rattle.sw_channel.specs.Seen.{ends_number, ends_channel, ends_item, LeadsPart, LeadsNone, LeadsDigits};
-ghost use Rattle.sw_channel.specs.Seen.{MeansNumber, MeansChannel, MeansRun};
+ghost use Rattle.sw_channel.specs.Seen.{MeansNumber, MeansChannel, MeansSingle, MeansRun};
 
 use crate::run::Run;
 use sw_base::{CHANNELS, Chan, SLOTS, blanks, is_digit, strip_prefix};
@@ -36,50 +36,8 @@ fn read_digits(text: &[u8]) -> Option<(Option<u32>, &[u8])>
     }
 }
 
-/// Whether no number goes on here: nothing is there, or what is neither white space nor a digit.
-fn is_off(text: &[u8]) -> bool
-    ensures { result ≡ true → StartsOff is_blank text.now × StartsOff is_digit text.now }
-{
-    match text {
-        [] => true,
-        [b, ..] => *b > 32 && !is_digit(*b),
-    }
-}
-
-/// The digit at the front, and what follows it.
-fn read_digit(text: &[u8]) -> Option<(u32, &[u8])>
-    ensures { IfSome result (λ x. (d : ℕ) × (text.now ≡ d ∷ x.1.now) × (is_digit d ≡ true) × (x.0 ≡ d - 48)) }
-{
-    match text {
-        [b, rest @ ..] if is_digit(*b) => Some((u32::from(*b - b'0'), rest)),
-        _ => None,
-    }
-}
-
-/// The number of one to three digits at the front, where there is one and no white space round it; and what follows it.
-fn short_number(text: &[u8]) -> Option<(u32, &[u8])>
-    ensures { IfSome result (λ x. LeadsPart IsPadded ends_number MeansNumber text.now (Some x.0) x.1.now) }
-{
-    let (first, rest) = read_digit(text)?;
-    if is_off(rest) {
-        return Some((first, rest));
-    }
-    let (second, rest) = read_digit(rest)?;
-    let two = 10 * first + second;
-    if is_off(rest) {
-        return Some((two, rest));
-    }
-    let (third, rest) = read_digit(rest)?;
-    if is_off(rest) {
-        Some((10 * two + third, rest))
-    } else {
-        None
-    }
-}
-
 /// The number at the front with the white space round it, none of more than nine digits, and what follows it.
-#[inline(never)]
-fn any_number(text: &[u8]) -> Option<(Option<u32>, &[u8])>
+fn read_number(text: &[u8]) -> Option<(Option<u32>, &[u8])>
     ensures found { IfSome result (λ x. LeadsPart IsPadded ends_number MeansNumber text.now x.0 x.1.now) }
     ensures none { IfNone result (LeadsNone IsPadded ends_number text.now) }
 {
@@ -89,14 +47,43 @@ fn any_number(text: &[u8]) -> Option<(Option<u32>, &[u8])>
     Some((value, rest))
 }
 
-/// What `any_number` reads: a short number, as most are, in fewer steps.
-fn read_number(text: &[u8]) -> Option<(Option<u32>, &[u8])>
-    ensures found { IfSome result (λ x. LeadsPart IsPadded ends_number MeansNumber text.now x.0 x.1.now) }
-    ensures none { IfNone result (LeadsNone IsPadded ends_number text.now) }
+/// The digit at the front, and what follows it.
+fn read_digit(text: &[u8]) -> Option<(u32, &[u8])>
+    ensures found { IfSome result (λ x. (d : ℕ) × (text.now ≡ d ∷ x.1.now) × (is_digit d ≡ true) × (x.0 ≡ d - 48)) }
+    ensures none { IfNone result (StartsOff is_digit text.now) }
 {
-    match short_number(text) {
-        Some((value, rest)) => Some((Some(value), rest)),
-        None => any_number(text),
+    match text {
+        [b, rest @ ..] if is_digit(*b) => Some((u32::from(*b - b'0'), rest)),
+        _ => None,
+    }
+}
+
+/// The text, unless it begins with white space.
+fn unpadded(text: &[u8]) -> Option<&[u8]>
+    ensures { IfSome result (λ x. (x.now ≡ text.now) × StartsOff is_blank text.now) }
+{
+    match text {
+        [b, ..] if *b <= 32 => None,
+        _ => Some(text),
+    }
+}
+
+/// The number at the front and what follows it, where it is one to three digits with no white space round it.
+fn short_number(text: &[u8]) -> Option<(u32, &[u8])>
+    ensures { IfSome result (λ x. LeadsPart IsPadded ends_number MeansNumber text.now (Some x.0) x.1.now) }
+{
+    let (one, rest) = read_digit(text)?;
+    let Some((second, rest)) = read_digit(rest) else {
+        return Some((one, unpadded(rest)?));
+    };
+    let two = 10 * one + second;
+    let Some((third, rest)) = read_digit(rest) else {
+        return Some((two, unpadded(rest)?));
+    };
+    let three = 10 * two + third;
+    match read_digit(rest) {
+        None => Some((three, unpadded(rest)?)),
+        Some(_) => None,
     }
 }
 
@@ -127,7 +114,8 @@ fn paired_channel(slot: Option<u32>, ch: Option<u32>) -> Option<Chan>
 }
 
 /// What the channel at the front means, and what follows it.
-pub fn read_channel(text: &[u8]) -> Option<(Option<Chan>, &[u8])>
+#[inline(never)]
+fn any_channel(text: &[u8]) -> Option<(Option<Chan>, &[u8])>
     ensures found { IfSome result (λ x. LeadsPart IsChannel ends_channel MeansChannel text.now x.0 x.1.now) }
     ensures none { IfNone result (LeadsNone IsChannel ends_channel text.now) }
 {
@@ -141,6 +129,29 @@ pub fn read_channel(text: &[u8]) -> Option<(Option<Chan>, &[u8])>
         return None;
     };
     Some((paired_channel(first, second), others))
+}
+
+/// What the channel at the front means and what follows it, where its numbers are short.
+fn short_channel(text: &[u8]) -> Option<(Option<Chan>, &[u8])>
+    ensures { IfSome result (λ x. LeadsPart IsChannel ends_channel MeansChannel text.now x.0 x.1.now) }
+{
+    let (first, rest) = short_number(text)?;
+    let Some(more) = strip_prefix(rest, b'!') else {
+        return Some((plain_channel(Some(first)), rest));
+    };
+    let (second, others) = short_number(more)?;
+    Some((paired_channel(Some(first), Some(second)), others))
+}
+
+/// What `any_channel` reads, in fewer steps where the numbers are short.
+pub fn read_channel(text: &[u8]) -> Option<(Option<Chan>, &[u8])>
+    ensures found { IfSome result (λ x. LeadsPart IsChannel ends_channel MeansChannel text.now x.0 x.1.now) }
+    ensures none { IfNone result (LeadsNone IsChannel ends_channel text.now) }
+{
+    match short_channel(text) {
+        Some((chan, rest)) => Some((chan, rest)),
+        None => any_channel(text),
+    }
 }
 
 /// The run of one channel.
@@ -182,6 +193,17 @@ pub fn read_item(text: &[u8]) -> Option<(Option<Run>, &[u8])>
         return None;
     };
     Some((range_run(first, last), others))
+}
+
+/// What the channel means that is the item at the front, where its numbers are short, and what follows the comma behind.
+pub fn short_item(text: &[u8]) -> Option<(Option<Chan>, &[u8])>
+    ensures { IfSome result (λ x. LeadsPart IsItem ends_item MeansSingle text.now x.0 (44 ∷ x.1.now)) }
+{
+    let Some((chan, rest)) = short_channel(text) else {
+        return None;
+    };
+    let others = strip_prefix(rest, b',')?;
+    Some((chan, others))
 }
 
 /// What stands between the brackets of a list.

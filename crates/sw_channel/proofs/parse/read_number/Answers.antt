@@ -1,5 +1,5 @@
 use Rattle.sw_channel.proofs.Parts.{number_leads, number_none}
-use Rattle.sw_channel.proofs.parse.any_number.Goals as goal
+use Rattle.sw_channel.proofs.parse.read_number.Goals as goal
 
 pub returns-in_err-value-clause-none : goal.returns-in_err-value-clause-none
 returns-in_err-value-clause-none c = rw c.from_residual.ensures (number_none _ _ _ c.blanks.ensures c.in_err-value.ensures.none)
