@@ -353,10 +353,10 @@ run_to slot first last k = map (λ i. (slot, towards first last i)) (range_with_
 one_further : (slot first last k : ℕ) → run_to slot first last (k + 1) ≡ run_to slot first last k ++ (slot, towards first last k) ∷ []
 one_further slot first last k = map-range_with_len_more (λ i. (slot, towards first last i)) 0 k k (omega arith)
 
-pub run_more : (out more front : List Channel) (slot first last k : ℕ) → out ≡ front ++ run_to slot first last k
-    → more ≡ out ++ (slot, towards first last k) ∷ [] → more ≡ front ++ run_to slot first last (k + 1)
-run_more out more front slot first last k e m =
-    rw (m, e, one_further slot first last k) (append_assoc front (run_to slot first last k) ((slot, towards first last k) ∷ []))
+pub run_more : (front : List Channel) (slot first last k : ℕ)
+    → (front ++ run_to slot first last k) ++ (slot, towards first last k) ∷ [] ≡ front ++ run_to slot first last (k + 1)
+run_more front slot first last k =
+    rw (one_further slot first last k) (append_assoc front (run_to slot first last k) ((slot, towards first last k) ∷ []))
 
 pub each_more : (out more front : List Position) (slot first last k : ℕ) → out ≡ front ++ map alone (run_to slot first last k)
     → more ≡ out ++ alone ((slot, towards first last k)) ∷ [] → more ≡ front ++ map alone (run_to slot first last (k + 1))

@@ -210,6 +210,11 @@ items = record {
   wider = item_wider;
 }
 
+-- a mark that ends no item isn't where one ends
+pub item_off : (mark : ℕ) (rest : List ℕ) → (mark == 44) ≡ false → EndsBy ends_item rest → StartsOff (λ b. b == mark) rest
+item_off mark [] m e = tt
+item_off mark (b ∷ bs) m e = grind (arith, common_steps)
+
 -- ---- items and commas
 
 pub none_left : (xs : List ℕ) → (length xs == 0) ≡ true → xs ≡ []

@@ -5,7 +5,7 @@ ghost use Rattle.sw_base.specs.Text.{is_blank, is_digit, StartsOff};
 ghost use Rattle.sw_channel.specs.Grammar.{WrittenChannel, plain, pair, one, range, IsPadded, IsChannel, IsItem};
 ghost use Rattle.sw_channel.specs.Meaning.{channel_numbered};
 ghost use Rattle.sw_channel.specs.Seen.{ends_number, ends_channel, ends_item, LeadsPart, LeadsNone, LeadsDigits};
-ghost use Rattle.sw_channel.specs.Seen.{MeansNumber, MeansChannel, MeansSingle, MeansRun};
+ghost use Rattle.sw_channel.specs.Seen.{EndsBy, MeansNumber, MeansChannel, MeansRun};
 
 use crate::run::Run;
 use sw_base::{CHANNELS, Chan, SLOTS, blanks, is_digit, strip_prefix};
@@ -179,6 +179,7 @@ pub fn range_run(first: Option<Chan>, last: Option<Chan>) -> Option<Run>
 }
 
 /// What the item at the front names, and what follows it.
+#[inline(never)]
 pub fn read_item(text: &[u8]) -> Option<(Option<Run>, &[u8])>
     ensures found { IfSome result (λ x. LeadsPart IsItem ends_item MeansRun text.now x.0 x.1.now) }
     ensures none { IfNone result (LeadsNone IsItem ends_item text.now) }
@@ -195,15 +196,25 @@ pub fn read_item(text: &[u8]) -> Option<(Option<Run>, &[u8])>
     Some((range_run(first, last), others))
 }
 
-/// What the channel means that is the item at the front, where its numbers are short, and what follows the comma behind.
-pub fn short_item(text: &[u8]) -> Option<(Option<Chan>, &[u8])>
-    ensures { IfSome result (λ x. LeadsPart IsItem ends_item MeansSingle text.now x.0 (44 ∷ x.1.now)) }
+/// Whether an item ends before this text: nothing is there, or a comma.
+fn is_end(text: &[u8]) -> bool
+    ensures { result ≡ true → EndsBy ends_item text.now }
 {
-    let Some((chan, rest)) = short_channel(text) else {
-        return None;
-    };
-    let others = strip_prefix(rest, b',')?;
-    Some((chan, others))
+    match text {
+        [] => true,
+        [b, ..] => *b == b',',
+    }
+}
+
+/// What the channel at the front means and what follows it, where its numbers are short and its item ends behind it.
+pub fn short_item(text: &[u8]) -> Option<(Option<Chan>, &[u8])>
+    ensures { IfSome result (λ x. LeadsPart IsChannel ends_channel MeansChannel text.now x.0 x.1.now
+        × EndsBy ends_item x.1.now) }
+{
+    match short_channel(text) {
+        Some((chan, rest)) if is_end(rest) => Some((chan, rest)),
+        _ => None,
+    }
 }
 
 /// What stands between the brackets of a list.
