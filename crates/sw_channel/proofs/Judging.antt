@@ -358,9 +358,9 @@ pub run_more : (front : List Channel) (slot first last k : ℕ)
 run_more front slot first last k =
     rw (one_further slot first last k) (append_assoc front (run_to slot first last k) ((slot, towards first last k) ∷ []))
 
-pub each_more : (out more front : List Position) (slot first last k : ℕ) → out ≡ front ++ map alone (run_to slot first last k)
-    → more ≡ out ++ alone ((slot, towards first last k)) ∷ [] → more ≡ front ++ map alone (run_to slot first last (k + 1))
-each_more out more front slot first last k e m =
+pub each_more : (front : List Position) (slot first last k : ℕ)
+    → (front ++ map alone (run_to slot first last k)) ++ alone ((slot, towards first last k)) ∷ [] ≡ front ++ map alone (run_to slot first last (k + 1))
+each_more front slot first last k =
     let g : map alone (run_to slot first last (k + 1)) ≡ map alone (run_to slot first last k) ++ alone ((slot, towards first last k)) ∷ [] =
     ap (λ (l : List Channel). map alone l) (one_further slot first last k) ∙ map-append alone (run_to slot first last k) ((slot, towards first last k) ∷ []) in
-    rw (m, e, g) (append_assoc front (map alone (run_to slot first last k)) (alone ((slot, towards first last k)) ∷ []))
+    rw g (append_assoc front (map alone (run_to slot first last k)) (alone ((slot, towards first last k)) ∷ []))
