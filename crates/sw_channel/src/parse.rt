@@ -48,6 +48,7 @@ fn read_number(text: &[u8]) -> Option<(Option<u32>, &[u8])>
 }
 
 /// The digit at the front, and what follows it.
+#[inline(always)]
 fn read_digit(text: &[u8]) -> Option<(u32, &[u8])>
     ensures found { IfSome result (λ x. (d : ℕ) × (text.now ≡ d ∷ x.1.now) × (is_digit d ≡ true) × (x.0 ≡ d - 48)) }
     ensures none { IfNone result (StartsOff is_digit text.now) }
@@ -59,6 +60,7 @@ fn read_digit(text: &[u8]) -> Option<(u32, &[u8])>
 }
 
 /// The text, unless it begins with white space.
+#[inline(always)]
 fn unpadded(text: &[u8]) -> Option<&[u8]>
     ensures { IfSome result (λ x. (x.now ≡ text.now) × StartsOff is_blank text.now) }
 {
@@ -69,6 +71,7 @@ fn unpadded(text: &[u8]) -> Option<&[u8]>
 }
 
 /// The number at the front and what follows it, where it is one to three digits with no white space round it.
+#[inline(always)]
 fn short_number(text: &[u8]) -> Option<(u32, &[u8])>
     ensures { IfSome result (λ x. LeadsPart IsPadded ends_number MeansNumber text.now (Some x.0) x.1.now) }
 {
@@ -114,7 +117,6 @@ fn paired_channel(slot: Option<u32>, ch: Option<u32>) -> Option<Chan>
 }
 
 /// What the channel at the front means, and what follows it.
-#[inline(never)]
 fn any_channel(text: &[u8]) -> Option<(Option<Chan>, &[u8])>
     ensures found { IfSome result (λ x. LeadsPart IsChannel ends_channel MeansChannel text.now x.0 x.1.now) }
     ensures none { IfNone result (LeadsNone IsChannel ends_channel text.now) }
@@ -132,6 +134,7 @@ fn any_channel(text: &[u8]) -> Option<(Option<Chan>, &[u8])>
 }
 
 /// What the channel at the front means and what follows it, where its numbers are short.
+#[inline(always)]
 fn short_channel(text: &[u8]) -> Option<(Option<Chan>, &[u8])>
     ensures { IfSome result (λ x. LeadsPart IsChannel ends_channel MeansChannel text.now x.0 x.1.now) }
 {
@@ -144,6 +147,7 @@ fn short_channel(text: &[u8]) -> Option<(Option<Chan>, &[u8])>
 }
 
 /// What `any_channel` reads, in fewer steps where the numbers are short.
+#[inline(never)]
 pub fn read_channel(text: &[u8]) -> Option<(Option<Chan>, &[u8])>
     ensures found { IfSome result (λ x. LeadsPart IsChannel ends_channel MeansChannel text.now x.0 x.1.now) }
     ensures none { IfNone result (LeadsNone IsChannel ends_channel text.now) }
@@ -197,6 +201,7 @@ pub fn read_item(text: &[u8]) -> Option<(Option<Run>, &[u8])>
 }
 
 /// Whether an item ends before this text: nothing is there, or a comma.
+#[inline(always)]
 fn is_end(text: &[u8]) -> bool
     ensures { result ≡ true → EndsBy ends_item text.now }
 {
@@ -207,6 +212,7 @@ fn is_end(text: &[u8]) -> bool
 }
 
 /// What the channel at the front means and what follows it, where its numbers are short and its item ends behind it.
+#[inline(always)]
 pub fn short_item(text: &[u8]) -> Option<(Option<Chan>, &[u8])>
     ensures { IfSome result (λ x. LeadsPart IsChannel ends_channel MeansChannel text.now x.0 x.1.now
         × EndsBy ends_item x.1.now) }
