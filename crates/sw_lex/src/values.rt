@@ -44,16 +44,22 @@ fn is_quantity(text: &[u8]) -> bool
 pub fn quantity(text: &[u8]) -> Result<(Nrf<'_>, &[u8]), ScpiError>
     ensures { ReadsQuantity text.now (result_map_both (λ x. (x.0, x.1.now)) (λ e. e) result) }
 {
-    if is_quantity(text) {
-        match Nrf::read(text) {
-            Err(e) => Err(e),
-            Ok((number, rest)) => {
+    match Nrf::read(text) {
+        Ok((number, rest)) => {
+            if is_suffix(rest) {
                 let (_, suffix) = blanks(rest);
                 Ok((number, suffix))
+            } else {
+                Err(ScpiError::InvalidCharacterInNumber)
             }
         }
-    } else {
-        Err(ScpiError::InvalidCharacterInNumber)
+        Err(e) => {
+            if is_quantity(text) {
+                Err(e)
+            } else {
+                Err(ScpiError::InvalidCharacterInNumber)
+            }
+        }
     }
 }
 
