@@ -1,8 +1,7 @@
 -- What stands between the parentheses of an expression, found by its end.
-use Rattle.std.proofs.Common.{◌≡◌, ℕ, ◌<◌, ◌≤◌, ◌+◌, zero, suc, Bool, true, false, List, [], ◌∷◌, length, refl, sym, ◌∙◌, arith, get_or, take, drop, drop-cons, inl, inr}
-use Rattle.std.specs.Prelude.{nat_lt, ◌==◌, ◌||◌}
+use Rattle.std.proofs.Common.{◌≡◌, ℕ, ◌<◌, ◌≤◌, zero, suc, true, false, List, [], ◌∷◌, length, refl, arith, get_or, take, drop, drop-cons, inl, inr}
+use Rattle.std.specs.Prelude.{nat_lt, ◌==◌}
 use Rattle.std.proofs.lemmas.Bool.{cases_Bool, lt-ltb}
-use Rattle.std.proofs.lemmas.Grind.{common_steps}
 use Rattle.memchr.specs.Find.{is_byte2}
 use Rattle.sw_base.specs.Text.{AllPass, StartsOff}
 use Rattle.sw_lex.specs.Elements.{is_inner}

@@ -20,3 +20,4 @@ pub mod WrittenLemmas
 pub mod ReadingsLemmas
 pub mod MeaningsLemmas
 pub mod InnersLemmas
+pub mod PlainLemmas

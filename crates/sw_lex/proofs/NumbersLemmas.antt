@@ -1,6 +1,6 @@
 -- Where a number at the front of a text ends.
 use Rattle.std.proofs.Common.{◌≡◌, ℕ, ◌+◌, ◌<◌, Bool, List, [], ◌∷◌, ◌++◌, length, refl, sym, ap, subst, ◌∙◌, arith, inl, inr, ◌⊎◌, append_assoc}
-use Rattle.std.specs.Prelude.{◌==◌, ◌||◌, ◌&&◌, not, true, false, pos}
+use Rattle.std.specs.Prelude.{◌==◌, ◌||◌, ◌&&◌, not, true, false}
 use Rattle.std.proofs.lemmas.Bool.{cases_Bool, eqb-true}
 use Rattle.std.proofs.lemmas.Grind.{common_steps}
 use Rattle.sw_base.specs.Text.{is_blank, is_digit, is_letter, AllPass, StartsOff, Spans}
@@ -9,6 +9,7 @@ use Rattle.sw_base.proofs.Runs.{one_span, AllPass-weaker}
 use Rattle.sw_base.proofs.Numerals.{one_mantissa, one_exponent, no_mark}
 use Rattle.sw_lex.proofs.HeadingsLemmas.{equal_not}
 use Rattle.sw_lex.specs.Elements.{is_run, IsApart, IsBody, IsSuffixed, IsNumeral}
+use Rattle.sw_lex.specs.Values.{digits_written}
 
 -- ---- white space round the `E`
 
@@ -181,10 +182,7 @@ digit_plus b h = grind (arith, common_steps)
 digit_minus : (b : ℕ) → is_digit b ≡ true → (b == 45) ≡ false
 digit_minus b h = grind (arith, common_steps)
 
-abbrev digits_written : List ℕ → Written
-digits_written digits = record { negative = false; whole = digits; fraction = []; exponent = pos 0 }
-
-digits_mantissa : (d : ℕ) (ds rest : List ℕ) → AllPass is_digit (d ∷ ds) → IsOver rest → IsMantissa (d ∷ (ds ++ rest)) (digits_written (d ∷ ds)) rest
+pub digits_mantissa : (d : ℕ) (ds rest : List ℕ) → AllPass is_digit (d ∷ ds) → IsOver rest → IsMantissa (d ∷ (ds ++ rest)) (digits_written (d ∷ ds)) rest
 digits_mantissa d ds rest a o = record {
   sign = sym (digit_minus d a.0);
   pointed = rest;
@@ -200,7 +198,7 @@ over_mark rest after o m =
       | inr e ↦ let z : true ≡ false = subst (λ (t : List ℕ). IsOver t) e o in cc
     ]
 
-over_exponent : (rest : List ℕ) → IsOver rest → (negative : Bool) (digits other : List ℕ) → IsExponent rest negative digits other → ⊥
+pub over_exponent : (rest : List ℕ) → IsOver rest → (negative : Bool) (digits other : List ℕ) → IsExponent rest negative digits other → ⊥
 over_exponent rest o negative digits other e =
     let s : Spans is_blank rest [] rest = record { whole = refl; pass = tt; off = off_both is_blank refl refl rest o } in
     no_mark rest negative digits other [] rest e s (λ after m. over_mark rest after o m)

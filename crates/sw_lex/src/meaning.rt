@@ -1,8 +1,9 @@
 //! From a unit to its command.
 
-ghost use Rattle.std.specs.Prelude.{◌≡◌, ◌≢◌, ◌≤◌, ℕ, List, Result, Err, length, map};
+ghost use Rattle.std.specs.Prelude.{◌≡◌, ◌≢◌, ◌≤◌, ◌<◌, ℕ, List, Result, Err, IfSome, length, map};
 ghost use Rattle.std.specs.Result.{result_map_both};
 ghost use Rattle.sw_base.specs.Number.{Written};
+ghost use Rattle.sw_base.specs.Text.{is_digit, AllPass};
 ghost use Rattle.sw_base.specs.declared.error.ScpiError.{ScpiError as Error};
 ghost use Rattle.sw_base.specs.declared.error.ScpiError.TheVariants.{OutOfMemory};
 ghost use Rattle.sw_channel.specs.Reading.{Reads, ReadsPositions};
@@ -27,7 +28,8 @@ use crate::raw_unit::RawUnit;
 use crate::table::{Key, Whole};
 use crate::unit::{Element, Header};
 use crate::values::{
-    continuous_of, macros_of, quantity, source_meant, switch_meant, time_of, whole_of,
+    continuous_of, is_plain, macros_of, plain_of, quantity, source_meant, switch_meant, time_of,
+    whole_of,
 };
 use std::alloc::Global;
 use sw_base::{Chan, LayerName, Nrf, ScpiError, Sequence};
@@ -89,11 +91,29 @@ fn one_number<'a>(elements: &[Element<'a>]) -> Result<(Nrf<'a>, &'a [u8]), ScpiE
     }
 }
 
+/// The one element, where it is a number of at most nine digits alone.
+fn plain_digits<'a>(elements: &[Element<'a>]) -> Option<&'a [u8]>
+    ensures { IfSome result (λ digits. ((read : Result (Written × List ℕ) Error) → ReadsQuantity digits.now read
+        → WithNumber (data_of elements.now) read)
+        × AllPass is_digit digits.now × (0 < length digits.now) × (length digits.now ≤ 9)) }
+{
+    match elements {
+        [number] => match *number {
+            Element::Number(text) if is_plain(text) => Some(text),
+            _ => None,
+        },
+        _ => None,
+    }
+}
+
 /// The command of one whole number.
 #[inline(never)]
 fn of_whole(ask: Whole, number: u8, elements: &[Element<'_>]) -> Result<Command, ScpiError>
     ensures { OfNumber (whole_of ask number) (data_of elements.now) result }
 {
+    if let Some(digits) = plain_digits(elements) {
+        return plain_of(ask, number, digits);
+    }
     match one_number(elements) {
         Err(e) => Err(e),
         Ok((n, suffix)) => whole_of(ask, number, &n, suffix),
