@@ -246,9 +246,9 @@ fn read_tail<'a>(text: &'a [u8], found: &mut Found<'a>) -> Result<(&'a [u8], &'a
     }
 }
 
-/// The next unit of a message, and what follows it; none where nothing but white space and empty units is left
-/// (IEEE 488.2, 7.3). Its data elements are put in this room, whatever stood there.
-pub fn next_unit<'u, 'a: 'u>(
+/// What `next_unit` finds in a message of any length.
+#[inline(never)]
+fn unit_in<'u, 'a: 'u>(
     text: &'a [u8],
     room: &'u mut Elements<'a>,
 ) -> Result<Option<(RawUnit<'u>, &'a [u8])>, ScpiError>
@@ -278,6 +278,26 @@ pub fn next_unit<'u, 'a: 'u>(
         },
         rest,
     )))
+}
+
+/// The next unit of a message, and what follows it; none where nothing but white space and empty units is left
+/// (IEEE 488.2, 7.3). Its data elements are put in this room, whatever stood there.
+#[inline(always)]
+pub fn next_unit<'u, 'a: 'u>(
+    text: &'a [u8],
+    room: &'u mut Elements<'a>,
+) -> Result<Option<(RawUnit<'u>, &'a [u8])>, ScpiError>
+    ensures unit { IfOk result (λ o. IfSome o (λ x. IsUnit text.now (unit_of x.0) x.1.now)) }
+    ensures written { IfOk result (λ o. IfSome o (λ x. (before left : List ℕ)
+        × IsWritten text.now before (unit_of x.0) (written_of x.0) left × Closes left x.1.now)) }
+    ensures shorter { IfOk result (λ o. IfSome o (λ x. length x.1.now < length text.now)) }
+    ensures none { IfOk result (λ o. IfNone o (IsBlank text.now)) }
+    ensures refused { IfErr result (λ e. IsRefusedUnit text.now e) }
+{
+    if text.is_empty() {
+        return Ok(None);
+    }
+    unit_in(text, room)
 }
 
 /// A law: no text is two units, nor refused in two ways, nor a unit and refused, nor blank and either; and no unit is
