@@ -93,6 +93,7 @@ impl<'a> Found<'a> {
 }
 
 /// Where the mnemonics and colons at the front end, or where they break off; and which of both.
+#[inline(always)]
 fn path_end(text: &[u8], words: &mut Words) -> (usize, bool)
     requires empty { words.old.count ≡ 0 }
     ensures fits { result.0 ≤ length text.now }
@@ -118,6 +119,7 @@ fn path_end(text: &[u8], words: &mut Words) -> (usize, bool)
 }
 
 /// The mnemonics and colons at the front, and what follows them.
+#[inline(always)]
 fn read_path<'a>(text: &'a [u8], words: &mut Words) -> Result<(&'a [u8], &'a [u8]), ScpiError>
     requires empty { words.old.count ≡ 0 }
     ensures ok { IfOk result (λ x. IsPath x.0.now × (text.now ≡ x.0.now ++ x.1.now)) }
@@ -246,9 +248,9 @@ fn read_tail<'a>(text: &'a [u8], found: &mut Found<'a>) -> Result<(&'a [u8], &'a
     }
 }
 
-/// What `next_unit` finds in a message of any length.
-#[inline(never)]
-fn unit_in<'u, 'a: 'u>(
+/// The next unit of a message, and what follows it; none where nothing but white space and empty units is left
+/// (IEEE 488.2, 7.3). Its data elements are put in this room, whatever stood there.
+pub fn next_unit<'u, 'a: 'u>(
     text: &'a [u8],
     room: &'u mut Elements<'a>,
 ) -> Result<Option<(RawUnit<'u>, &'a [u8])>, ScpiError>
@@ -278,26 +280,6 @@ fn unit_in<'u, 'a: 'u>(
         },
         rest,
     )))
-}
-
-/// The next unit of a message, and what follows it; none where nothing but white space and empty units is left
-/// (IEEE 488.2, 7.3). Its data elements are put in this room, whatever stood there.
-#[inline(always)]
-pub fn next_unit<'u, 'a: 'u>(
-    text: &'a [u8],
-    room: &'u mut Elements<'a>,
-) -> Result<Option<(RawUnit<'u>, &'a [u8])>, ScpiError>
-    ensures unit { IfOk result (λ o. IfSome o (λ x. IsUnit text.now (unit_of x.0) x.1.now)) }
-    ensures written { IfOk result (λ o. IfSome o (λ x. (before left : List ℕ)
-        × IsWritten text.now before (unit_of x.0) (written_of x.0) left × Closes left x.1.now)) }
-    ensures shorter { IfOk result (λ o. IfSome o (λ x. length x.1.now < length text.now)) }
-    ensures none { IfOk result (λ o. IfNone o (IsBlank text.now)) }
-    ensures refused { IfErr result (λ e. IsRefusedUnit text.now e) }
-{
-    if text.is_empty() {
-        return Ok(None);
-    }
-    unit_in(text, room)
 }
 
 /// A law: no text is two units, nor refused in two ways, nor a unit and refused, nor blank and either; and no unit is

@@ -3,7 +3,7 @@ use Rattle.sw_lex.specs.Unit.{heading_of, data_of}
 use Rattle.sw_lex.proofs.ShorterLemmas.{unit_rest}
 use Rattle.sw_lex.proofs.HeadedLemmas.{heading_bytes, heading_begins}
 use Rattle.sw_lex.proofs.WrittenLemmas.{start_leaves}
-use Rattle.sw_lex.proofs.unit.unit_in.Goals as goal
+use Rattle.sw_lex.proofs.unit.next_unit.Goals as goal
 
 pub returns-clause-shorter : goal.returns-clause-shorter
 returns-clause-shorter c =
