@@ -12,12 +12,12 @@ use Rattle.sw_base.specs.Memory.{Gives}
 use Rattle.sw_base.specs.declared.error.ScpiError.{ScpiError}
 use Rattle.sw_base.specs.declared.error.ScpiError.TheVariants.{InvalidExpression, DataOutOfRange, OutOfMemory, TooMuchData}
 use Rattle.std.specs.Option.{option_map}
-use Rattle.sw_channel.specs.Grammar.{WrittenChannel, ListItem, range, PositionItem, joined, single_each, IsItems, IsPositionItems, IsBracketed}
+use Rattle.sw_channel.specs.Grammar.{WrittenChannel, ListItem, one, range, PositionItem, joined, single_each, IsItems, IsPositionItems, IsBracketed}
 use Rattle.sw_channel.specs.Positions.{Position, alone}
 use Rattle.sw_channel.specs.PositionMeaning.{NamePositions, positions_judged}
 use Rattle.sw_channel.specs.Meaning.{channels_of, channels_between, count_between, towards, Mean, judged, judged_with, fitting, channels_judged}
 use Rattle.sw_channel.specs.Reading.{ListKind, channel_list, position_list, SpellsAs, IsNoListOf, IsRefusedAs, ReadsAs}
-use Rattle.sw_channel.specs.Seen.{channels_in, positions_in, MeansRun, LeadsTo, IsFound, Gathers}
+use Rattle.sw_channel.specs.Seen.{channels_in, positions_in, MeansChannel, MeansSingle, MeansRun, LeadsTo, IsFound, Gathers}
 use Rattle.sw_channel.specs.declared.run.Run.{Run}
 use Rattle.sw_channel.specs.declared.entry.Entry.{Entry}
 use Rattle.sw_channel.specs.declared.collect.Found.{Found}
@@ -283,6 +283,10 @@ leads_full f i is all run more e m h x =
     let full : nat_le (length x.0 + length (channels_in run)) 512 ≡ false = lt-leb _ _ (omega (arith, h, m, x.1, l)) in
     let y = rw (e, full) at x.3 in sym y
 
+pub single_means : (chan : Option Channel) (w : WrittenChannel) → MeansChannel w chan → MeansSingle (one w) chan
+single_means None w h = rw (← h) refl
+single_means (Some c) w h = rw (← h) refl
+
 -- no item is left
 pub leads_over : {I V : Type 0} (judge : ℕ → I → Result (List V) ScpiError) (found : Result (Found V) ScpiError) (all : Result (List V) ScpiError)
     → LeadsTo judge found [] all → IsFound found all
@@ -349,14 +353,14 @@ run_to slot first last k = map (λ i. (slot, towards first last i)) (range_with_
 one_further : (slot first last k : ℕ) → run_to slot first last (k + 1) ≡ run_to slot first last k ++ (slot, towards first last k) ∷ []
 one_further slot first last k = map-range_with_len_more (λ i. (slot, towards first last i)) 0 k k (omega arith)
 
-pub run_more : (out more front : List Channel) (slot first last k : ℕ) → out ≡ front ++ run_to slot first last k
-    → more ≡ out ++ (slot, towards first last k) ∷ [] → more ≡ front ++ run_to slot first last (k + 1)
-run_more out more front slot first last k e m =
-    rw (m, e, one_further slot first last k) (append_assoc front (run_to slot first last k) ((slot, towards first last k) ∷ []))
+pub run_more : (front : List Channel) (slot first last k : ℕ)
+    → (front ++ run_to slot first last k) ++ (slot, towards first last k) ∷ [] ≡ front ++ run_to slot first last (k + 1)
+run_more front slot first last k =
+    rw (one_further slot first last k) (append_assoc front (run_to slot first last k) ((slot, towards first last k) ∷ []))
 
-pub each_more : (out more front : List Position) (slot first last k : ℕ) → out ≡ front ++ map alone (run_to slot first last k)
-    → more ≡ out ++ alone ((slot, towards first last k)) ∷ [] → more ≡ front ++ map alone (run_to slot first last (k + 1))
-each_more out more front slot first last k e m =
+pub each_more : (front : List Position) (slot first last k : ℕ)
+    → (front ++ map alone (run_to slot first last k)) ++ alone ((slot, towards first last k)) ∷ [] ≡ front ++ map alone (run_to slot first last (k + 1))
+each_more front slot first last k =
     let g : map alone (run_to slot first last (k + 1)) ≡ map alone (run_to slot first last k) ++ alone ((slot, towards first last k)) ∷ [] =
     ap (λ (l : List Channel). map alone l) (one_further slot first last k) ∙ map-append alone (run_to slot first last k) ((slot, towards first last k) ∷ []) in
-    rw (m, e, g) (append_assoc front (map alone (run_to slot first last k)) (alone ((slot, towards first last k)) ∷ []))
+    rw g (append_assoc front (map alone (run_to slot first last k)) (alone ((slot, towards first last k)) ∷ []))

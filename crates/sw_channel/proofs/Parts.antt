@@ -63,6 +63,14 @@ number_leads text a r d m b rest number s t u h n = record {
       (one_span is_blank m p.after tail b rest g u).1;
 }
 
+-- a number with no white space round it
+pub bare_leads : (text d rest : List ℕ) (number : Option ℕ) → text ≡ d ++ rest → AllPass is_digit d → 0 < length d
+    → StartsOff is_blank rest → StartsOff is_digit rest → MeansNumber d number → LeadsPart IsPadded ends_number MeansNumber text number rest
+bare_leads text d rest number e a h b o n =
+    let s : StartsOff is_blank text = subst (λ (t : List ℕ). StartsOff is_blank t) (sym e) (digits-off d rest a h) in
+    number_leads text [] text d rest [] rest number (record { whole = refl; pass = tt; off = s }) (record { whole = e; pass = a; off = o })
+    (record { whole = refl; pass = tt; off = b }) h n
+
 pub number_none : (text a r : List ℕ) → Spans is_blank text a r → StartsOff is_digit r → LeadsNone IsPadded ends_number text
 number_none text a r s o = λ other tail e p q w.
     no_digits e (p.after ++ tail) r p.digits_only p.some o (digits_at text a r other tail e s p q w)
@@ -154,6 +162,12 @@ leads_double {W} {V} {M} {N} {P} {Q} {mark} {inner} {outer} {Means} {Meaning} f 
       ];
 }
 
+-- the same part, of which something else is known
+pub leads_known : {W M N : Type 0} {P : List ℕ → W → Type 0} {ends : ℕ → Bool} {Means : W → M → Type 0} {Known : W → N → Type 0} (text rest : List ℕ) (m : M)
+    (n : N) → LeadsPart P ends Means text m rest → ((w : W) → Means w m → Known w n) → LeadsPart P ends Known text n rest
+leads_known text rest m n l f =
+    record { front = l.front; written = l.written; part = l.part; means = f l.written l.means; whole = l.whole; only = l.only }
+
 -- ---- channels and items
 
 pub channel_cases : (text : List ℕ) (w : WrittenChannel) → IsChannel text w
@@ -195,6 +209,11 @@ items = record {
   off = refl;
   wider = item_wider;
 }
+
+-- a mark that ends no item isn't where one ends
+pub item_off : (mark : ℕ) (rest : List ℕ) → (mark == 44) ≡ false → EndsBy ends_item rest → StartsOff (λ b. b == mark) rest
+item_off mark [] m e = tt
+item_off mark (b ∷ bs) m e = grind (arith, common_steps)
 
 -- ---- items and commas
 

@@ -65,6 +65,10 @@ MeansChannel written chan = chan ≡ channel_of written
 abbrev pub channels_in : Run → List Channel
 channels_in run = channels_between run.first.0 run.first.1 run.last.1
 
+-- an item that names one channel, or none that is right
+abbrev pub MeansSingle : ListItem → Option Channel → Type 0
+MeansSingle item chan = channels_of item ≡ option_map (λ c. c ∷ []) chan
+
 abbrev pub MeansRun : ListItem → Option Run → Type 0
 MeansRun item run = channels_of item ≡ option_map channels_in run
 
@@ -91,6 +95,12 @@ abbrev pub LeadsTo : {I V : Type 0} → (ℕ → I → Result (List V) ScpiError
 LeadsTo {I} {V} judge (Ok found) items all = (front : List V) × (length front ≡ found.count)
     × IfOk found.entries (λ v. v.items ≡ front) × (judged judge front items ≡ all)
 LeadsTo judge (Err e) items all = all ≡ Err e
+
+-- one more item leads from what was found before it to what is found with it
+abbrev pub TakesItem : {I V : Type 0} → (ℕ → I → Result (List V) ScpiError) → Result (Found V) ScpiError → I → Result (Found V) ScpiError
+    → Type 0
+TakesItem {I} {V} judge before item after = (items : List I) (all : Result (List V) ScpiError)
+    → LeadsTo judge before (item ∷ items) all → LeadsTo judge after items all
 
 -- what is found of all items: these entries, or this refusal
 abbrev pub IsFound : {V : Type 0} → Result (Found V) ScpiError → Result (List V) ScpiError → Type 0

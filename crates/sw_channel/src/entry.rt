@@ -9,7 +9,7 @@ ghost use Rattle.sw_channel.specs.PositionMeaning.{and_next};
 ghost use Rattle.sw_channel.specs.Seen.{ends_channel, ends_item, LeadsPart, LeadsNone, MeansChannel, MeansJoined};
 ghost use Rattle.sw_channel.specs.Seen.{MeansEntry, positions_in};
 
-use crate::parse::{range_run, read_channel};
+use crate::parse::{range_run, read_channel, short_item};
 use crate::position::Position;
 use crate::run::Run;
 use sw_base::{Chan, LIST_ENTRIES, ScpiError, strip_prefix};
@@ -114,7 +114,8 @@ fn joined_entry(position: Result<Position, ScpiError>) -> Result<Entry, ScpiErro
 }
 
 /// What the item at the front names in a list that has so many positions, or its first refusal; and what follows it.
-pub fn read_entry(text: &[u8], count: usize) -> Option<(Result<Entry, ScpiError>, &[u8])>
+#[inline(never)]
+fn any_entry(text: &[u8], count: usize) -> Option<(Result<Entry, ScpiError>, &[u8])>
     requires { count ≤ most_entries }
     ensures found { IfSome result (λ x. LeadsPart IsPositionItem ends_item (MeansEntry count) text.now x.0 x.1.now) }
     ensures none { IfNone result (LeadsNone IsPositionItem ends_item text.now) }
@@ -132,4 +133,16 @@ pub fn read_entry(text: &[u8], count: usize) -> Option<(Result<Entry, ScpiError>
         return None;
     };
     Some((range_entry(first, last, count), others))
+}
+
+/// What `any_entry` reads, in fewer steps where the item is one channel of short numbers.
+pub fn read_entry(text: &[u8], count: usize) -> Option<(Result<Entry, ScpiError>, &[u8])>
+    requires { count ≤ most_entries }
+    ensures found { IfSome result (λ x. LeadsPart IsPositionItem ends_item (MeansEntry count) text.now x.0 x.1.now) }
+    ensures none { IfNone result (LeadsNone IsPositionItem ends_item text.now) }
+{
+    if let Some((chan, rest)) = short_item(text) {
+        return Some((joined_entry(begun(chan, count)), rest));
+    }
+    any_entry(text, count)
 }

@@ -1,11 +1,11 @@
 //! From bytes to what the parts of a list mean, each read at the front of a text: numbers, channels and items.
 
-ghost use Rattle.std.specs.Prelude.{◌≡◌, ◌∷◌, ◌++◌, List, [], ℕ, IfSome, IfNone};
-ghost use Rattle.sw_base.specs.Text.{is_digit, StartsOff};
+ghost use Rattle.std.specs.Prelude.{◌≡◌, ◌-◌, ◌∷◌, ◌++◌, List, [], ℕ, true, Some, IfSome, IfNone};
+ghost use Rattle.sw_base.specs.Text.{is_blank, is_digit, StartsOff};
 ghost use Rattle.sw_channel.specs.Grammar.{WrittenChannel, plain, pair, one, range, IsPadded, IsChannel, IsItem};
 ghost use Rattle.sw_channel.specs.Meaning.{channel_numbered};
 ghost use Rattle.sw_channel.specs.Seen.{ends_number, ends_channel, ends_item, LeadsPart, LeadsNone, LeadsDigits};
-ghost use Rattle.sw_channel.specs.Seen.{MeansNumber, MeansChannel, MeansRun};
+ghost use Rattle.sw_channel.specs.Seen.{EndsBy, MeansNumber, MeansChannel, MeansRun};
 
 use crate::run::Run;
 use sw_base::{CHANNELS, Chan, SLOTS, blanks, is_digit, strip_prefix};
@@ -47,6 +47,49 @@ fn read_number(text: &[u8]) -> Option<(Option<u32>, &[u8])>
     Some((value, rest))
 }
 
+/// The digit at the front, and what follows it.
+#[inline(always)]
+fn read_digit(text: &[u8]) -> Option<(u32, &[u8])>
+    ensures found { IfSome result (λ x. (d : ℕ) × (text.now ≡ d ∷ x.1.now) × (is_digit d ≡ true) × (x.0 ≡ d - 48)) }
+    ensures none { IfNone result (StartsOff is_digit text.now) }
+{
+    match text {
+        [b, rest @ ..] if is_digit(*b) => Some((u32::from(*b - b'0'), rest)),
+        _ => None,
+    }
+}
+
+/// The text, unless it begins with white space.
+#[inline(always)]
+fn unpadded(text: &[u8]) -> Option<&[u8]>
+    ensures { IfSome result (λ x. (x.now ≡ text.now) × StartsOff is_blank text.now) }
+{
+    match text {
+        [b, ..] if *b <= 32 => None,
+        _ => Some(text),
+    }
+}
+
+/// The number at the front and what follows it, where it is one to three digits with no white space round it.
+#[inline(always)]
+fn short_number(text: &[u8]) -> Option<(u32, &[u8])>
+    ensures { IfSome result (λ x. LeadsPart IsPadded ends_number MeansNumber text.now (Some x.0) x.1.now) }
+{
+    let (one, rest) = read_digit(text)?;
+    let Some((second, rest)) = read_digit(rest) else {
+        return Some((one, unpadded(rest)?));
+    };
+    let two = 10 * one + second;
+    let Some((third, rest)) = read_digit(rest) else {
+        return Some((two, unpadded(rest)?));
+    };
+    let three = 10 * two + third;
+    match read_digit(rest) {
+        None => Some((three, unpadded(rest)?)),
+        Some(_) => None,
+    }
+}
+
 /// The channel of these two numbers, where they are in range.
 fn channel_at(slot: u32, ch: u32) -> Option<Chan>
     ensures { result ≡ channel_numbered slot ch }
@@ -74,7 +117,7 @@ fn paired_channel(slot: Option<u32>, ch: Option<u32>) -> Option<Chan>
 }
 
 /// What the channel at the front means, and what follows it.
-pub fn read_channel(text: &[u8]) -> Option<(Option<Chan>, &[u8])>
+fn any_channel(text: &[u8]) -> Option<(Option<Chan>, &[u8])>
     ensures found { IfSome result (λ x. LeadsPart IsChannel ends_channel MeansChannel text.now x.0 x.1.now) }
     ensures none { IfNone result (LeadsNone IsChannel ends_channel text.now) }
 {
@@ -88,6 +131,31 @@ pub fn read_channel(text: &[u8]) -> Option<(Option<Chan>, &[u8])>
         return None;
     };
     Some((paired_channel(first, second), others))
+}
+
+/// What the channel at the front means and what follows it, where its numbers are short.
+#[inline(always)]
+fn short_channel(text: &[u8]) -> Option<(Option<Chan>, &[u8])>
+    ensures { IfSome result (λ x. LeadsPart IsChannel ends_channel MeansChannel text.now x.0 x.1.now) }
+{
+    let (first, rest) = short_number(text)?;
+    let Some(more) = strip_prefix(rest, b'!') else {
+        return Some((plain_channel(Some(first)), rest));
+    };
+    let (second, others) = short_number(more)?;
+    Some((paired_channel(Some(first), Some(second)), others))
+}
+
+/// What `any_channel` reads, in fewer steps where the numbers are short.
+#[inline(never)]
+pub fn read_channel(text: &[u8]) -> Option<(Option<Chan>, &[u8])>
+    ensures found { IfSome result (λ x. LeadsPart IsChannel ends_channel MeansChannel text.now x.0 x.1.now) }
+    ensures none { IfNone result (LeadsNone IsChannel ends_channel text.now) }
+{
+    match short_channel(text) {
+        Some((chan, rest)) => Some((chan, rest)),
+        None => any_channel(text),
+    }
 }
 
 /// The run of one channel.
@@ -115,6 +183,7 @@ pub fn range_run(first: Option<Chan>, last: Option<Chan>) -> Option<Run>
 }
 
 /// What the item at the front names, and what follows it.
+#[inline(never)]
 pub fn read_item(text: &[u8]) -> Option<(Option<Run>, &[u8])>
     ensures found { IfSome result (λ x. LeadsPart IsItem ends_item MeansRun text.now x.0 x.1.now) }
     ensures none { IfNone result (LeadsNone IsItem ends_item text.now) }
@@ -129,6 +198,29 @@ pub fn read_item(text: &[u8]) -> Option<(Option<Run>, &[u8])>
         return None;
     };
     Some((range_run(first, last), others))
+}
+
+/// Whether an item ends before this text: nothing is there, or a comma.
+#[inline(always)]
+fn is_end(text: &[u8]) -> bool
+    ensures { result ≡ true → EndsBy ends_item text.now }
+{
+    match text {
+        [] => true,
+        [b, ..] => *b == b',',
+    }
+}
+
+/// What the channel at the front means and what follows it, where its numbers are short and its item ends behind it.
+#[inline(always)]
+pub fn short_item(text: &[u8]) -> Option<(Option<Chan>, &[u8])>
+    ensures { IfSome result (λ x. LeadsPart IsChannel ends_channel MeansChannel text.now x.0 x.1.now
+        × EndsBy ends_item x.1.now) }
+{
+    match short_channel(text) {
+        Some((chan, rest)) if is_end(rest) => Some((chan, rest)),
+        _ => None,
+    }
 }
 
 /// What stands between the brackets of a list.

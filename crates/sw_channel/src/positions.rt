@@ -1,15 +1,15 @@
 //! From what stands between the brackets of a list to the positions that it names, in one pass.
 
-ghost use Rattle.std.specs.Prelude.{◌≡◌, ◌≤◌, ◌∷◌, ◌++◌, List, [], ℕ, Result, IfOk, OnOk, Ok, Err, map};
+ghost use Rattle.std.specs.Prelude.{◌≡◌, ◌≤◌, ◌∷◌, ◌++◌, List, [], ℕ, Result, IfOk, Ok, Err, map};
 ghost use Rattle.std.specs.Result.{result_map_both, ForOk};
 ghost use Rattle.sw_base.specs.Limits.{most_entries};
 ghost use Rattle.sw_base.specs.declared.error.ScpiError.{ScpiError as Error};
 ghost use Rattle.sw_channel.specs.Grammar.{PositionItem};
 ghost use Rattle.sw_channel.specs.Positions.{Position as Channels, alone};
 ghost use Rattle.sw_channel.specs.PositionMeaning.{positions_judged};
-ghost use Rattle.sw_channel.specs.Seen.{channels_in, positions_in, entry_seen, LeadsTo, GathersPositions};
+ghost use Rattle.sw_channel.specs.Seen.{channels_in, positions_in, entry_seen, TakesItem, GathersPositions};
 
-use crate::collect::{Found, all_of, room};
+use crate::collect::{Found, all_of, push_found, room};
 use crate::entry::{Entry, read_entry};
 use crate::position::Position;
 use crate::run::Run;
@@ -17,36 +17,24 @@ use std::alloc::{AllocError, Global};
 use sw_base::{ScpiError, strip_prefix};
 
 /// Adds a position of each channel of the run.
-fn push_each(positions: &mut Vec<Position>, run: &Run) -> Result<(), AllocError>
-    ensures { OnOk result (positions.new.items ≡ positions.old.items ++ map alone (channels_in run.now)) }
+fn push_each(entries: &mut Result<Vec<Position>, AllocError>, run: &Run)
+    ensures { (front : List Channels) → IfOk entries.old (λ v. v.items ≡ front)
+        → IfOk entries.new (λ v. v.items ≡ front ++ map alone (channels_in run.now)) }
 {
     for k in 0..run.count() {
-        positions.push(Position::new(run.channel(k)))?;
+        push_found(entries, Position::new(run.channel(k)));
     }
-    Ok(())
 }
 
 /// Adds the positions of the entry.
-fn push_entry(positions: &mut Vec<Position>, entry: &Entry) -> Result<(), AllocError>
-    ensures { OnOk result (positions.new.items ≡ positions.old.items ++ positions_in entry.now) }
+fn push_entry(entries: &mut Result<Vec<Position>, AllocError>, entry: &Entry)
+    ensures { (front : List Channels) → IfOk entries.old (λ v. v.items ≡ front)
+        → IfOk entries.new (λ v. v.items ≡ front ++ positions_in entry.now) }
 {
     match entry {
-        Entry::Joined(position) => Ok(positions.push(*position)?),
-        Entry::Range(run) => push_each(positions, run),
+        Entry::Joined(position) => push_found(entries, *position),
+        Entry::Range(run) => push_each(entries, run),
     }
-}
-
-/// The positions and those of the entry.
-fn with_positions(
-    positions: Result<Vec<Position>, AllocError>,
-    entry: &Entry,
-) -> Result<Vec<Position>, AllocError>
-    ensures { (front : List Channels) → IfOk positions (λ v. v.items ≡ front)
-        → IfOk result (λ v. v.items ≡ front ++ positions_in entry.now) }
-{
-    let mut positions = positions?;
-    push_entry(&mut positions, entry)?;
-    Ok(positions)
 }
 
 /// How many positions are found.
@@ -61,24 +49,23 @@ fn count_of(found: &Result<Found<Position>, ScpiError>) -> usize
     }
 }
 
-/// What is found after one more item, of this entry or refusal.
-fn with_entry(
-    found: Result<Found<Position>, ScpiError>,
-    entry: Result<Entry, ScpiError>,
-) -> Result<Found<Position>, ScpiError>
-    requires { ForOk found (λ f. f.count ≤ most_entries) }
-    ensures leads { (i : PositionItem) (is : List PositionItem) (all : Result (List Channels) Error)
-        → IfOk found (λ f. positions_judged f.count i ≡ entry_seen entry)
-        → LeadsTo positions_judged found (i ∷ is) all → LeadsTo positions_judged result is all }
-    ensures within { (i : PositionItem) → IfOk found (λ f. positions_judged f.count i ≡ entry_seen entry)
-        → IfOk result (λ f. f.count ≤ most_entries) }
+/// Adds what one more item names: an entry, or a refusal.
+fn add_entry(found: &mut Result<Found<Position>, ScpiError>, entry: Result<Entry, ScpiError>)
+    requires { ForOk found.old (λ f. f.count ≤ most_entries) }
+    ensures taken { (i : PositionItem) → IfOk found.old (λ f. positions_judged f.count i ≡ entry_seen entry)
+        → TakesItem positions_judged found.old i found.new }
+    ensures within { (i : PositionItem) → IfOk found.old (λ f. positions_judged f.count i ≡ entry_seen entry)
+        → IfOk found.new (λ f. f.count ≤ most_entries) }
 {
-    let found = found?;
-    let entry = entry?;
-    Ok(Found {
-        count: found.count + entry.count(),
-        entries: with_positions(found.entries, &entry),
-    })
+    if let Ok(known) = found {
+        match entry {
+            Err(refusal) => *found = Err(refusal),
+            Ok(entry) => {
+                known.count += entry.count();
+                push_entry(&mut known.entries, &entry);
+            }
+        }
+    }
 }
 
 /// The positions that the items of the text name, or the first refusal.
@@ -91,18 +78,16 @@ pub fn collect_positions(alloc: Global, text: &[u8]) -> Result<Vec<Position>, Sc
         entries: room(alloc, text.len()),
     });
     'list: loop {
-        match read_entry(rest, count_of(&found)) {
+        let Some((entry, after)) = read_entry(rest, count_of(&found)) else {
+            return Err(ScpiError::InvalidExpression);
+        };
+        add_entry(&mut found, entry);
+        if after.is_empty() {
+            return all_of(found);
+        }
+        match strip_prefix(after, b',') {
             None => return Err(ScpiError::InvalidExpression),
-            Some((entry, after)) => {
-                found = with_entry(found, entry);
-                if after.is_empty() {
-                    return all_of(found);
-                }
-                match strip_prefix(after, b',') {
-                    None => return Err(ScpiError::InvalidExpression),
-                    Some(others) => rest = others,
-                }
-            }
+            Some(others) => rest = others,
         }
     }
 }

@@ -19,3 +19,5 @@ pub mod OnceLemmas
 pub mod WrittenLemmas
 pub mod ReadingsLemmas
 pub mod MeaningsLemmas
+pub mod InnersLemmas
+pub mod PlainLemmas

@@ -1,13 +1,15 @@
 -- Where a number at the front of a text ends.
 use Rattle.std.proofs.Common.{◌≡◌, ℕ, ◌+◌, ◌<◌, Bool, List, [], ◌∷◌, ◌++◌, length, refl, sym, ap, subst, ◌∙◌, arith, inl, inr, ◌⊎◌, append_assoc}
-use Rattle.std.specs.Prelude.{◌==◌, ◌||◌}
-use Rattle.std.proofs.lemmas.Bool.{cases_Bool}
-use Rattle.sw_base.specs.Text.{is_blank, is_digit, is_letter, Spans}
+use Rattle.std.specs.Prelude.{◌==◌, ◌||◌, ◌&&◌, not, true, false}
+use Rattle.std.proofs.lemmas.Bool.{cases_Bool, eqb-true}
+use Rattle.std.proofs.lemmas.Grind.{common_steps}
+use Rattle.sw_base.specs.Text.{is_blank, is_digit, is_letter, AllPass, StartsOff, Spans}
 use Rattle.sw_base.specs.Number.{Written, unsigned, IsFraction, IsMantissa, IsExponent}
-use Rattle.sw_base.proofs.Runs.{one_span}
-use Rattle.sw_base.proofs.Numerals.{one_mantissa, one_exponent}
+use Rattle.sw_base.proofs.Runs.{one_span, AllPass-weaker}
+use Rattle.sw_base.proofs.Numerals.{one_mantissa, one_exponent, no_mark}
 use Rattle.sw_lex.proofs.HeadingsLemmas.{equal_not}
 use Rattle.sw_lex.specs.Elements.{is_run, IsApart, IsBody, IsSuffixed, IsNumeral}
+use Rattle.sw_lex.specs.Values.{digits_written}
 
 -- ---- white space round the `E`
 
@@ -153,3 +155,69 @@ suffix_tail text rest s =
 
 pub numeral_tail : (text rest : List ℕ) → IsNumeral text rest → Tail text rest
 numeral_tail text rest n = tail_on text n.0 rest (body_tail text n.0 n.1) (suffix_tail n.0 rest n.2)
+
+-- ---- digits alone
+
+-- a comma or a semicolon stands first, or nothing
+abbrev pub IsOver : List ℕ → Type 0
+IsOver text = StartsOff (λ b. not (b == 44) && not (b == 59)) text
+
+off_both : (p : ℕ → Bool) → p 44 ≡ false → p 59 ≡ false → (rest : List ℕ) → IsOver rest → StartsOff p rest
+off_both p h k [] o = tt
+off_both p h k (b ∷ rest) o =
+    elim (cases_Bool (b == 44)) [
+      | inl e ↦ subst (λ (x : ℕ). p x ≡ false) (sym (eqb-true b 44 e)) h
+      | inr e ↦ elim (cases_Bool (b == 59)) [
+        | inl f ↦ subst (λ (x : ℕ). p x ≡ false) (sym (eqb-true b 59 f)) k
+        | inr f ↦ absurd (let z : true ≡ false = (rw (e, f) at o) in cc)
+      ]
+    ]
+
+digit_run : (b : ℕ) → is_digit b ≡ true → is_run b ≡ true
+digit_run b h = grind (arith, common_steps)
+
+digit_plus : (b : ℕ) → is_digit b ≡ true → (b == 43) ≡ false
+digit_plus b h = grind (arith, common_steps)
+
+digit_minus : (b : ℕ) → is_digit b ≡ true → (b == 45) ≡ false
+digit_minus b h = grind (arith, common_steps)
+
+pub digits_mantissa : (d : ℕ) (ds rest : List ℕ) → AllPass is_digit (d ∷ ds) → IsOver rest → IsMantissa (d ∷ (ds ++ rest)) (digits_written (d ∷ ds)) rest
+digits_mantissa d ds rest a o = record {
+  sign = sym (digit_minus d a.0);
+  pointed = rest;
+  before = rw (digit_plus d a.0, digit_minus d a.0) (record { whole = refl; pass = a; off = off_both is_digit refl refl rest o });
+  after = inr (off_both (λ b. b == 46) refl refl rest o, refl, refl);
+  digit = omega arith;
+}
+
+over_mark : (rest after : List ℕ) → IsOver rest → (rest ≡ 69 ∷ after) ⊎ (rest ≡ 101 ∷ after) → ⊥
+over_mark rest after o m =
+    elim m [
+      | inl e ↦ let z : true ≡ false = subst (λ (t : List ℕ). IsOver t) e o in cc
+      | inr e ↦ let z : true ≡ false = subst (λ (t : List ℕ). IsOver t) e o in cc
+    ]
+
+pub over_exponent : (rest : List ℕ) → IsOver rest → (negative : Bool) (digits other : List ℕ) → IsExponent rest negative digits other → ⊥
+over_exponent rest o negative digits other e =
+    let s : Spans is_blank rest [] rest = record { whole = refl; pass = tt; off = off_both is_blank refl refl rest o } in
+    no_mark rest negative digits other [] rest e s (λ after m. over_mark rest after o m)
+
+plain_at : (d : ℕ) (ds rest : List ℕ) → AllPass is_digit (d ∷ ds) → IsOver rest → IsNumeral (d ∷ (ds ++ rest)) rest
+plain_at d ds rest a o =
+    let r : Spans is_run (d ∷ (ds ++ rest)) (d ∷ ds) rest =
+    record { whole = refl; pass = AllPass-weaker is_digit is_run digit_run (d ∷ ds) a; off = off_both is_run refl refl rest o } in
+    let s : IsSuffixed rest rest = record {
+      gap = [];
+      more = rest;
+      letters = [];
+      after = rest;
+      blank = record { whole = refl; pass = tt; off = off_both is_blank refl refl rest o };
+      all = record { whole = refl; pass = tt; off = off_both is_letter refl refl rest o };
+      ends = inl (refl, refl);
+    } in
+    (rest, inr (no_exponent_apart _ _ _ (digits_mantissa d ds rest a o) (over_exponent rest o), d ∷ ds, r), s)
+
+pub plain_numeral : (text front rest : List ℕ) → Spans is_digit text front rest → 0 < length front → IsOver rest → IsNumeral text rest
+plain_numeral text [] rest s l o = absurd (omega (arith, l))
+plain_numeral text (d ∷ ds) rest s l o = subst (λ (t : List ℕ). IsNumeral t rest) (sym s.whole) (plain_at d ds rest s.pass o)

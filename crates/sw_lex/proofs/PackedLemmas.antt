@@ -180,6 +180,18 @@ number_small w i n l s a e =
     let k : length (up (take i w)) ≤ 12 = omega (arith, length-map (take i w) to_ascii_uppercase, length-take-le i w l, l, s) in
     omega (arith, e, packed_small (up (take i w)) k a)
 
+packed_few : (word : List ℕ) → length word ≤ 6 → AllPass is_byte word → packed word < 2 ^ 52
+packed_few word l a =
+    let h : packed word < 2 * 256 ^ length word = after_small 1 word 2 a (omega arith) in
+    let q : (6 - length word) + length word ≡ 6 = omega (arith, l) in
+    let r : 256 ^ length word ≤ 256 ^ 6 = subst (λ (k : ℕ). 256 ^ length word ≤ 256 ^ k) q (powers (6 - length word) (length word)) in
+    omega (arith, h, r)
+
+pub number_few : (w : List ℕ) (i n : ℕ) → i ≤ length w → i ≤ 6 → AllPass is_byte (up (take i w)) → n ≡ packed (up (take i w)) → n < 2 ^ 52
+number_few w i n l s a e =
+    let k : length (up (take i w)) ≤ 6 = omega (arith, length-map (take i w) to_ascii_uppercase, length-take-le i w l, l, s) in
+    omega (arith, e, packed_few (up (take i w)) k a)
+
 -- ---- the bytes of a number
 
 pub last_length : (k n : ℕ) → length (last_bytes k n) ≤ k

@@ -67,6 +67,19 @@ quantity_at text n rest gap suffix p s q =
     let t = one_span is_blank rest gap suffix q.2.gap q.1 s (subst (λ (z : List ℕ). Spans is_blank z q.2.gap q.1) (sym r.1) q.2.blank) in
     record { rest = rest; gap = gap; number = p; blank = s; letters = subst (λ (z : List ℕ). AllPass is_letter z) (sym t.1) q.2.letters }
 
+-- a number and what may be its suffix
+pub quantity_by : (text : List ℕ) (n : Written) (rest gap suffix : List ℕ) → IsNumber text n rest → Spans is_blank rest gap suffix → IsSuffix rest
+    → IsQuantity text n suffix
+quantity_by text n rest gap suffix p s x =
+    quantity_at text n rest gap suffix p s (n, x.1, record { rest = rest; gap = x.0; number = p; blank = x.2; letters = x.3 })
+
+-- a number and what is no suffix
+pub no_quantity : (text : List ℕ) (n : Written) (rest : List ℕ) → IsNumber text n rest → (IsSuffix rest → ⊥) → (m : Written) (other : List ℕ)
+    → IsQuantity text m other → ⊥
+no_quantity text n rest p h m other q =
+    let r = one_number text n rest m q.rest p q.number in
+    h (q.gap, other, subst (λ (z : List ℕ). Spans is_blank z q.gap other) (sym r.1) q.blank, q.letters)
+
 -- ---- words
 
 all_front : (front rest : List ℕ) → AllPass is_digit front → all_digits rest ≡ true → all_digits (front ++ rest) ≡ true

@@ -49,6 +49,10 @@ ReadsQuantity text (Err e) =
     (((n : Written) (suffix : List ℕ) → IsQuantity text n suffix → ⊥) × (e ≡ InvalidCharacterInNumber))
     ⊎ ((n : Written) × (suffix : List ℕ) × IsQuantity text n suffix × IsRefusedNumber text e)
 
+-- the number that digits alone write
+abbrev pub digits_written : List ℕ → Written
+digits_written digits = record { negative = false; whole = digits; fraction = []; exponent = pos 0 }
+
 -- the number itself from low to high, without its sign, else an error
 abbrev pub natural_in : ℕ → ℕ → ℤ → Result ℕ ScpiError
 natural_in low high z = result_map_both unsigned_abs (λ e. e) (in_range (pos low) (pos high) z)

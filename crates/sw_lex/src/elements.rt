@@ -72,7 +72,7 @@ pub fn closing(text: &[u8], mark: u8) -> Option<&[u8]>
 }
 
 /// The number that at most nine digits write.
-fn value(digits: &[u8]) -> usize
+pub fn value(digits: &[u8]) -> usize
     requires numeric { AllPass is_digit digits.now }
     requires few { length digits.now ≤ 9 }
     ensures { result ≡ value_of digits.now }

@@ -125,19 +125,32 @@ fn spelled(steps: &[HeaderNode], words: &[Word]) -> Option<u8>
     }
 }
 
-/// Whether the words may be a spelling of the nodes, by the first of both.
-fn may_fit(steps: &[HeaderNode], words: &[Word]) -> bool
-    ensures { result ≡ false → (k : ℕ) → FitNumbers steps.now words.now k → ⊥ }
+/// What is left of the nodes and of the words behind those at the front that have to be spelled; none where one of them
+/// isn't.
+#[inline(always)]
+fn behind_musts<'s, 'w>(
+    steps: &'s [HeaderNode],
+    words: &'w [Word],
+) -> Option<(&'s [HeaderNode], &'w [Word])>
+    ensures fits { IfSome result (λ x. (k : ℕ) → FitNumbers steps.now words.now k ↔ FitNumbers x.0.now x.1.now k) }
+    ensures none { IfNone result ((k : ℕ) → FitNumbers steps.now words.now k → ⊥) }
 {
-    match steps {
-        [] => words.is_empty(),
-        [step, ..] => match step {
-            HeaderNode::Must(form) => match words {
-                [] => false,
-                [word, ..] => is_spelling(*word, form),
+    let mut steps = steps;
+    let mut words = words;
+    'nodes: loop {
+        match steps {
+            [] => return Some((steps, words)),
+            [step, others @ ..] => match step {
+                HeaderNode::Must(form) => match words {
+                    [word, rest @ ..] if is_spelling(*word, form) => {
+                        steps = others;
+                        words = rest;
+                    }
+                    _ => return None,
+                },
+                HeaderNode::May(_) | HeaderNode::Numbered(_) => return Some((steps, words)),
             },
-            HeaderNode::May(_) | HeaderNode::Numbered(_) => true,
-        },
+        }
     }
 }
 
@@ -148,8 +161,8 @@ fn below(rows: &[Row], words: &[Word]) -> Option<(Key, u8)>
     ensures none { IfNone result ((query : Bool) (key : Key) (k : ℕ) → RowNumbers rows.now words.now query key k → ⊥) }
 {
     for row in rows {
-        if may_fit(row.steps(), words) {
-            if let Some(number) = spelled(row.steps(), words) {
+        if let Some((steps, rest)) = behind_musts(row.steps(), words) {
+            if let Some(number) = spelled(steps, rest) {
                 return Some((row.key(), number));
             }
         }

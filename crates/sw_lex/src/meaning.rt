@@ -1,8 +1,9 @@
 //! From a unit to its command.
 
-ghost use Rattle.std.specs.Prelude.{◌≡◌, ◌≢◌, ◌≤◌, ℕ, List, Result, Err, length, map};
+ghost use Rattle.std.specs.Prelude.{◌≡◌, ◌≢◌, ◌≤◌, ◌<◌, ℕ, List, Result, Err, IfSome, length, map};
 ghost use Rattle.std.specs.Result.{result_map_both};
 ghost use Rattle.sw_base.specs.Number.{Written};
+ghost use Rattle.sw_base.specs.Text.{is_digit, AllPass};
 ghost use Rattle.sw_base.specs.declared.error.ScpiError.{ScpiError as Error};
 ghost use Rattle.sw_base.specs.declared.error.ScpiError.TheVariants.{OutOfMemory};
 ghost use Rattle.sw_channel.specs.Reading.{Reads, ReadsPositions};
@@ -18,7 +19,7 @@ ghost use Rattle.sw_lex.specs.Values.{on_ok, ReadsQuantity, ReadsString, whole_o
 ghost use Rattle.sw_lex.specs.Values.{source_meant};
 
 use crate::choice::layer_of;
-use crate::command::{BoxedDefinition, Command, Definition, MacroCommand, Setting, Time};
+use crate::command::{BoxedDefinition, Channels, Command, Definition, MacroCommand, Setting, Time};
 use crate::headers::find_words;
 use crate::owned::{body, content};
 use crate::path::Path;
@@ -27,7 +28,8 @@ use crate::raw_unit::RawUnit;
 use crate::table::{Key, Whole};
 use crate::unit::{Element, Header};
 use crate::values::{
-    continuous_of, macros_of, quantity, source_meant, switch_meant, time_of, whole_of,
+    continuous_of, is_plain, macros_of, plain_of, quantity, source_meant, switch_meant, time_of,
+    whole_of,
 };
 use std::alloc::Global;
 use sw_base::{Chan, LayerName, Nrf, ScpiError, Sequence};
@@ -45,7 +47,6 @@ fn plain(command: Command, elements: &[Element<'_>]) -> Result<Command, ScpiErro
 }
 
 /// The channels of the one element, which is a channel list.
-#[inline(never)]
 fn one_list(alloc: Global, elements: &[Element<'_>]) -> Result<Sequence<Chan>, ScpiError>
     ensures { WithList Reads (data_of elements.now) result }
 {
@@ -60,7 +61,6 @@ fn one_list(alloc: Global, elements: &[Element<'_>]) -> Result<Sequence<Chan>, S
 }
 
 /// The positions of the one element, which is a list of positions.
-#[inline(never)]
 fn one_position_list(
     alloc: Global,
     elements: &[Element<'_>],
@@ -91,11 +91,29 @@ fn one_number<'a>(elements: &[Element<'a>]) -> Result<(Nrf<'a>, &'a [u8]), ScpiE
     }
 }
 
+/// The one element, where it is a number of at most nine digits alone.
+fn plain_digits<'a>(elements: &[Element<'a>]) -> Option<&'a [u8]>
+    ensures { IfSome result (λ digits. ((read : Result (Written × List ℕ) Error) → ReadsQuantity digits.now read
+        → WithNumber (data_of elements.now) read)
+        × AllPass is_digit digits.now × (0 < length digits.now) × (length digits.now ≤ 9)) }
+{
+    match elements {
+        [number] => match *number {
+            Element::Number(text) if is_plain(text) => Some(text),
+            _ => None,
+        },
+        _ => None,
+    }
+}
+
 /// The command of one whole number.
 #[inline(never)]
 fn of_whole(ask: Whole, number: u8, elements: &[Element<'_>]) -> Result<Command, ScpiError>
     ensures { OfNumber (whole_of ask number) (data_of elements.now) result }
 {
+    if let Some(digits) = plain_digits(elements) {
+        return plain_of(ask, number, digits);
+    }
     match one_number(elements) {
         Err(e) => Err(e),
         Ok((n, suffix)) => whole_of(ask, number, &n, suffix),
@@ -216,6 +234,38 @@ fn of_macro(alloc: Global, elements: &[Element<'_>]) -> Result<Command, ScpiErro
     }
 }
 
+/// A command with a channel list.
+#[inline(never)]
+fn of_channels(alloc: Global, ask: Channels, elements: &[Element<'_>]) -> Result<Command, ScpiError>
+    ensures { (k : ℕ) → DecodesCommand (Key.Channels ask) k (data_of elements.now) result }
+{
+    Ok(Command::Channels(ask, one_list(alloc, elements)?))
+}
+
+/// `ROUTe:SCAN`
+#[inline(never)]
+fn of_scan(alloc: Global, elements: &[Element<'_>]) -> Result<Command, ScpiError>
+    ensures { (k : ℕ) → DecodesCommand Key.Scan k (data_of elements.now) result }
+{
+    Ok(Command::Set(Setting::Scan(one_position_list(alloc, elements)?)))
+}
+
+/// `*GMC?`
+#[inline(never)]
+fn of_body_query(alloc: Global, elements: &[Element<'_>]) -> Result<Command, ScpiError>
+    ensures { (k : ℕ) → DecodesCommand Key.MacroQuery k (data_of elements.now) result }
+{
+    Ok(Command::Macro(MacroCommand::BodyQuery(one_string(alloc, elements)?)))
+}
+
+/// `*RMC`
+#[inline(never)]
+fn of_removal(alloc: Global, elements: &[Element<'_>]) -> Result<Command, ScpiError>
+    ensures { (k : ℕ) → DecodesCommand Key.RemoveMacro k (data_of elements.now) result }
+{
+    Ok(Command::Macro(MacroCommand::Remove(one_string(alloc, elements)?)))
+}
+
 /// The command of a header with this number in it and these data.
 #[inline(never)]
 fn decode(
@@ -236,18 +286,16 @@ fn decode(
         Key::ReadOut(ask) => plain(Command::ReadOut(ask), elements),
         Key::Signal(family) => plain(Command::Signal(layer_of(family, number)), elements),
         Key::Macros(ask) => plain(Command::Macros(ask), elements),
-        Key::Channels(ask) => Ok(Command::Channels(ask, one_list(alloc, elements)?)),
-        Key::Scan => Ok(Command::Set(Setting::Scan(one_position_list(alloc, elements)?))),
+        Key::Channels(ask) => of_channels(alloc, ask, elements),
+        Key::Scan => of_scan(alloc, elements),
         Key::Whole(ask) => of_whole(ask, number, elements),
         Key::Time(time, family) => of_time(time, layer_of(family, number), elements),
         Key::Source(family) => of_source(layer_of(family, number), elements),
         Key::Continuous => of_switch(elements),
         Key::EnableMacros => of_macros(elements),
         Key::DefineMacro => of_macro(alloc, elements),
-        Key::MacroQuery => Ok(Command::Macro(MacroCommand::BodyQuery(one_string(
-            alloc, elements,
-        )?))),
-        Key::RemoveMacro => Ok(Command::Macro(MacroCommand::Remove(one_string(alloc, elements)?))),
+        Key::MacroQuery => of_body_query(alloc, elements),
+        Key::RemoveMacro => of_removal(alloc, elements),
     }
 }
 

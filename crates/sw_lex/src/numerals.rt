@@ -1,10 +1,10 @@
 //! Where a number at the front of a text ends.
 
-ghost use Rattle.std.specs.Prelude.{◌≡◌, ℕ, List, IfSome, IfNone};
-ghost use Rattle.sw_base.specs.Text.{Spans};
+ghost use Rattle.std.specs.Prelude.{◌≡◌, ◌==◌, ◌&&◌, not, true, ℕ, List, IfSome, IfNone};
+ghost use Rattle.sw_base.specs.Text.{Spans, StartsOff};
 ghost use Rattle.sw_lex.specs.Elements.{is_run, IsApart, IsBody, IsSuffixed, IsNumeral};
 
-use sw_base::{Exponent, blanks, letters, read_exponent, read_mantissa};
+use sw_base::{Exponent, blanks, digits, letters, read_exponent, read_mantissa};
 
 /// Whether a number that has begun runs over the byte.
 fn is_run(b: u8) -> bool
@@ -58,9 +58,34 @@ fn suffix_end(text: &[u8]) -> &[u8]
     if letters.is_empty() { text } else { rest }
 }
 
+/// Whether an element ends before this text: nothing is there, or a comma, or a semicolon.
+fn is_over(text: &[u8]) -> bool
+    ensures { result ≡ true → StartsOff (λ b. not (b == 44) && not (b == 59)) text.now }
+{
+    match text {
+        [] => true,
+        [b, ..] => *b == b',' || *b == b';',
+    }
+}
+
+/// What follows the number at the front, where it is digits alone and its element ends behind them.
+fn plain_end(text: &[u8]) -> Option<&[u8]>
+    ensures { IfSome result (λ rest. IsNumeral text.now rest.now) }
+{
+    let (front, rest) = digits(text);
+    if !front.is_empty() && is_over(rest) {
+        Some(rest)
+    } else {
+        None
+    }
+}
+
 /// What follows the number at the front.
 pub fn numeral_end(text: &[u8]) -> &[u8]
     ensures { IsNumeral text.now result.now }
 {
-    suffix_end(body_end(text))
+    match plain_end(text) {
+        Some(rest) => rest,
+        None => suffix_end(body_end(text)),
+    }
 }

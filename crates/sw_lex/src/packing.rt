@@ -1,6 +1,6 @@
 //! Words as numbers, so that two are compared at once.
 
-ghost use Rattle.std.specs.Prelude.{◌≡◌, true, ◌≤◌, ◌++◌, ◌∷◌, [], length, map, take, drop};
+ghost use Rattle.std.specs.Prelude.{◌≡◌, true, ◌≤◌, ◌<◌, ◌++◌, ◌∷◌, [], length, map, take, drop};
 ghost use Rattle.std.specs.Char.{to_ascii_uppercase};
 ghost use Rattle.sw_base.specs.Text.{is_word, AllPass, StartsOff};
 ghost use Rattle.sw_lex.specs.Headed.{most_words, word_number};
@@ -77,8 +77,30 @@ pub fn numbers_of(words: &[&[u8]]) -> ArrayVec<Word, 4>
     numbers
 }
 
-/// The number of the bytes at the front that may stand in a mnemonic, and how many they are.
-pub fn word_at(text: &[u8]) -> (Word, usize)
+/// So many bytes with a one before them are a number of 64 bits.
+const FEW: usize = 7;
+
+/// The number of the first bytes at the front that may stand in a mnemonic, and how many they are, seven at most.
+#[inline(always)]
+fn few_at(text: &[u8]) -> (u64, usize)
+    ensures fits { result.1 ≤ length text.now }
+    ensures pass { AllPass is_word (take result.1 text.now) }
+    ensures off { result.1 < 7 → StartsOff is_word (drop result.1 text.now) }
+    ensures number { result.1 < 7 → result.0 ≡ word_number (take result.1 text.now) }
+{
+    let most = text.len().min(FEW);
+    let mut n = 0;
+    let mut number: u64 = 1;
+    while n < most && capital(text[n]) != 0 {
+        number = number * 256 + u64::from(capital(text[n]));
+        n += 1;
+    }
+    (number, n)
+}
+
+/// What `word_at` finds, for a word of any length.
+#[inline(never)]
+fn long_word_at(text: &[u8]) -> (Word, usize)
     ensures fits { result.1 ≤ length text.now }
     ensures pass { AllPass is_word (take result.1 text.now) }
     ensures off { StartsOff is_word (drop result.1 text.now) }
@@ -96,6 +118,20 @@ pub fn word_at(text: &[u8]) -> (Word, usize)
         return (0, all.len());
     }
     (number, n)
+}
+
+/// The number of the bytes at the front that may stand in a mnemonic, and how many they are.
+pub fn word_at(text: &[u8]) -> (Word, usize)
+    ensures fits { result.1 ≤ length text.now }
+    ensures pass { AllPass is_word (take result.1 text.now) }
+    ensures off { StartsOff is_word (drop result.1 text.now) }
+    ensures number { result.0 ≡ word_number (take result.1 text.now) }
+{
+    let (number, n) = few_at(text);
+    if n < FEW {
+        return (Word::from(number), n);
+    }
+    long_word_at(text)
 }
 
 /// How many words of a header are kept.

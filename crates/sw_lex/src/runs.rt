@@ -1,6 +1,6 @@
 //! Runs of bytes that units are made of.
 
-ghost use Rattle.std.specs.Prelude.{◌≡◌, ◌==◌, ◌++◌, ◌∷◌, ◌≤◌, ◌<◌, [], ℕ, List, IfOk, IfErr, IfSome, IfNone};
+ghost use Rattle.std.specs.Prelude.{◌≡◌, ◌==◌, ◌++◌, ◌∷◌, ◌≤◌, ◌<◌, nat_lt, true, [], ℕ, List, IfOk, IfErr, IfSome, IfNone};
 ghost use Rattle.std.specs.Prelude.{length, take, drop};
 ghost use Rattle.sw_base.specs.Text.{is_blank, is_letter, is_word, AllPass, StartsOff, Spans};
 ghost use Rattle.sw_base.specs.declared.error.ScpiError.TheVariants.{SyntaxError};
@@ -9,6 +9,7 @@ ghost use Rattle.sw_lex.specs.Headed.{most_words, word_number};
 ghost use Rattle.sw_lex.specs.Unit.{is_gap, fault_at, Ends, IsMnemonic, IsName};
 
 use crate::packing::{Words, word_at};
+use memchr::memchr2;
 use sw_base::{ScpiError, is_blank, is_letter, letters};
 
 /// The white space and the empty units at the front, and what follows them.
@@ -30,7 +31,7 @@ fn is_inner(b: u8) -> bool
 }
 
 /// The bytes at the front that may stand in an expression, and what follows them.
-pub fn inners(bytes: &[u8]) -> (&[u8], &[u8])
+fn inner_run(bytes: &[u8]) -> (&[u8], &[u8])
     ensures { Spans is_inner bytes.now result.0.now result.1.now }
 {
     let mut n = 0;
@@ -38,6 +39,27 @@ pub fn inners(bytes: &[u8]) -> (&[u8], &[u8])
         n += 1;
     }
     bytes.split_at(n)
+}
+
+/// Whether no byte is above 126.
+fn are_low(bytes: &[u8]) -> bool
+    ensures { result ≡ true → AllPass (λ b. nat_lt b 127) bytes.now }
+{
+    let mut greatest = 0;
+    for byte in bytes {
+        greatest = greatest.max(*byte);
+    }
+    greatest < 127
+}
+
+/// The same, in fewer steps where a parenthesis follows them.
+pub fn inners(bytes: &[u8]) -> (&[u8], &[u8])
+    ensures { Spans is_inner bytes.now result.0.now result.1.now }
+{
+    match memchr2(b')', b'\n', bytes) {
+        Some(n) if are_low(&bytes[..n]) => bytes.split_at(n),
+        _ => inner_run(bytes),
+    }
 }
 
 /// What follows a unit's end, where the bytes begin with one.

@@ -93,6 +93,7 @@ impl<'a> Found<'a> {
 }
 
 /// Where the mnemonics and colons at the front end, or where they break off; and which of both.
+#[inline(always)]
 fn path_end(text: &[u8], words: &mut Words) -> (usize, bool)
     requires empty { words.old.count ≡ 0 }
     ensures fits { result.0 ≤ length text.now }
@@ -118,6 +119,7 @@ fn path_end(text: &[u8], words: &mut Words) -> (usize, bool)
 }
 
 /// The mnemonics and colons at the front, and what follows them.
+#[inline(always)]
 fn read_path<'a>(text: &'a [u8], words: &mut Words) -> Result<(&'a [u8], &'a [u8]), ScpiError>
     requires empty { words.old.count ≡ 0 }
     ensures ok { IfOk result (λ x. IsPath x.0.now × (text.now ≡ x.0.now ++ x.1.now)) }

@@ -1,16 +1,17 @@
 //! What data mean: numbers with their suffixes, and words.
 
-ghost use Rattle.std.specs.Prelude.{◌≡◌, ◌≤◌, ℕ, List, IsTrue, ◌↔◌, IfOk, map, length};
+ghost use Rattle.std.specs.Prelude.{◌≡◌, ◌≤◌, ◌<◌, true, [], ℕ, List, IsTrue, ◌↔◌, IfOk, map, length};
 ghost use Rattle.std.specs.Char.{to_ascii_uppercase};
 ghost use Rattle.std.specs.Result.{result_map_both};
-ghost use Rattle.sw_base.specs.Text.{is_blank, is_letter, AllPass, Spans};
+ghost use Rattle.sw_base.specs.Text.{is_blank, is_digit, is_letter, AllPass, Spans};
 ghost use Rattle.sw_base.specs.Number.{Written, rounded};
-ghost use Rattle.sw_lex.specs.Values.{IsQuantity, ReadsQuantity, natural_in, whole_of, continuous_of, macros_of};
+ghost use Rattle.sw_lex.specs.Values.{IsQuantity, ReadsQuantity, natural_in, digits_written, whole_of, continuous_of, macros_of};
 ghost use Rattle.sw_lex.specs.Values.{time_unit_of, time_of, source_of, switch_of, source_meant};
 ghost use Rattle.sw_lex.specs.Values.{switch_meant, all_digits, unnumbered};
 
 use crate::choice::{greatest, least, least_micros, of_whole};
 use crate::command::{Command, MacroCommand, Setting, Time};
+use crate::elements::value;
 use crate::headers::is_form;
 use crate::table::Whole;
 use sw_base::{
@@ -44,16 +45,22 @@ fn is_quantity(text: &[u8]) -> bool
 pub fn quantity(text: &[u8]) -> Result<(Nrf<'_>, &[u8]), ScpiError>
     ensures { ReadsQuantity text.now (result_map_both (λ x. (x.0, x.1.now)) (λ e. e) result) }
 {
-    if is_quantity(text) {
-        match Nrf::read(text) {
-            Err(e) => Err(e),
-            Ok((number, rest)) => {
+    match Nrf::read(text) {
+        Ok((number, rest)) => {
+            if is_suffix(rest) {
                 let (_, suffix) = blanks(rest);
                 Ok((number, suffix))
+            } else {
+                Err(ScpiError::InvalidCharacterInNumber)
             }
         }
-    } else {
-        Err(ScpiError::InvalidCharacterInNumber)
+        Err(e) => {
+            if is_quantity(text) {
+                Err(e)
+            } else {
+                Err(ScpiError::InvalidCharacterInNumber)
+            }
+        }
     }
 }
 
@@ -74,6 +81,27 @@ pub fn whole_of(ask: Whole, number: u8, n: &Nrf<'_>, suffix: &[u8]) -> Result<Co
         [] => Ok(of_whole(ask, number, natural(n, least(ask), greatest(ask))?)),
         _ => Err(ScpiError::SuffixNotAllowed),
     }
+}
+
+/// Whether the text is digits alone, at most nine.
+pub fn is_plain(text: &[u8]) -> bool
+    ensures { result ≡ true → AllPass is_digit text.now × (0 < length text.now) × (length text.now ≤ 9) }
+{
+    let (_, rest) = digits(text);
+    rest.is_empty() && !text.is_empty() && text.len() <= 9
+}
+
+/// The command with the number that these digits write, at most nine.
+pub fn plain_of(ask: Whole, number: u8, digits: &[u8]) -> Result<Command, ScpiError>
+    requires numeric { AllPass is_digit digits.now }
+    requires few { length digits.now ≤ 9 }
+    ensures { result ≡ whole_of ask number (digits_written digits.now) [] }
+{
+    let n = value(digits);
+    if n < least(ask) as usize || n > greatest(ask) as usize {
+        return Err(ScpiError::DataOutOfRange);
+    }
+    Ok(of_whole(ask, number, n as u32))
 }
 
 /// `INITiate:CONTinuous` with this number.

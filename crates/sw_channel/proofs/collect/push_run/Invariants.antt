@@ -1,8 +1,10 @@
-use Rattle.std.proofs.Common.{◌≡◌, ◌++◌, map}
+use Rattle.std.proofs.Common.{◌≡◌, ◌++◌, map, List}
+use Rattle.std.specs.Prelude.{IfOk}
 use Rattle.std.specs.List.{range_with_len}
+use Rattle.sw_base.specs.Layout.{Channel}
 use Rattle.sw_channel.specs.Meaning.{towards}
 use Rattle.sw_channel.proofs.collect.push_run.Given as goal
 
 abbrev pub invariant-loop-k : goal.invariant-loop-k
-invariant-loop-k l =
-    l.chans.items ≡ l.fn.chans.items ++ map (λ i. (l.fn.run.first.0, towards l.fn.run.first.1 l.fn.run.last.1 i)) (range_with_len 0 l.k)
+invariant-loop-k l = (front : List Channel) → IfOk l.fn.entries (λ v. v.items ≡ front)
+    → IfOk l.entries (λ v. v.items ≡ front ++ map (λ i. (l.fn.run.first.0, towards l.fn.run.first.1 l.fn.run.last.1 i)) (range_with_len 0 l.k))

@@ -8,13 +8,13 @@ use Rattle.sw_channel.proofs.Parts.{first_of, last_item, next_items, no_next, no
 use Rattle.sw_channel.proofs.Judging.{leads_over, counted}
 use Rattle.sw_channel.proofs.positions.collect_positions.Goals as goal
 
-pub returns-in-None : goal.returns-in-None
-returns-in-None c =
+pub returns-in_default : goal.returns-in_default
+returns-in_default c =
     inl (
       λ is h.
           let all = c.list.invariant.onward is h in
           let f = first_of {Part = IsPositionItem} _ all.0 all.1 in
-          c.in-None.ensures.none f.front f.tail f.item f.part f.ends f.whole,
+          c.in_default.ensures.none f.front f.tail f.item f.part f.ends f.whole,
       refl,
     )
 
@@ -25,17 +25,17 @@ returns-then-is_empty c =
     let whole = c.list.invariant.back (l.written ∷ []) last in
     let all = c.list.invariant.onward whole.0 whole.1 in
     let e : all.0 ≡ l.written ∷ [] = one_joined position_items _ all.0 (l.written ∷ []) all.1 last in
-    let t = c.with_entry-found.ensures.leads l.written [] (judged positions_judged [] whole.0) (counted c.list.found _ l.written _ c.count_of.ensures.count l.means)
+    let t = c.add_entry.ensures.taken l.written (counted c.list.found _ l.written _ c.count_of.ensures.count l.means) [] (judged positions_judged [] whole.0)
     (subst (λ (js : List PositionItem). LeadsTo positions_judged c.list.found js (judged positions_judged [] whole.0)) e all.2) in
     inr (whole.0, whole.1, c.all_of.ensures (judged positions_judged [] whole.0) (leads_over positions_judged _ _ t))
 
-pub returns-in-None-strip_prefix : goal.returns-in-None-strip_prefix
-returns-in-None-strip_prefix c =
+pub returns-in-None : goal.returns-in-None
+returns-in-None c =
     inl (
       λ is h.
           let all = c.list.invariant.onward is h in
           no_next IsPositionItem (MeansEntry c.count_of.result) _ _ _ c.in-Some.ensures.found (some_left _ (sym c.is_empty.ensures ∙ c.if-is_empty.false))
-          c.in-None-strip_prefix.ensures.none all.0 all.1,
+          c.in-None.ensures.none all.0 all.1,
       refl,
     )
 
@@ -48,11 +48,11 @@ list-preserved c =
           let r = next_items IsPositionItem (MeansEntry c.count_of.result) _ _ _ l _ position_items c.in-Some-strip_prefix.ensures.found all.0 all.1 in (
             r.0,
             r.2,
-            c.with_entry-found.ensures.leads l.written r.0 (judged positions_judged [] is) (counted c.list.found _ l.written _ c.count_of.ensures.count l.means)
+            c.add_entry.ensures.taken l.written (counted c.list.found _ l.written _ c.count_of.ensures.count l.means) r.0 (judged positions_judged [] is)
                 (subst (λ (js : List PositionItem). LeadsTo positions_judged c.list.found js (judged positions_judged [] is)) r.1 all.2),
           );
       back = λ js h.
           let w = l.whole ∙ ap (λ (t : List ℕ). l.front ++ t) c.in-Some-strip_prefix.ensures.found in
           c.list.invariant.back (l.written ∷ js) (parts_join 44 IsPositionItem _ l.front _ l.written js w l.part h);
-      within = λ f e. rw e at (c.with_entry-found.ensures.within l.written (counted c.list.found _ l.written _ c.count_of.ensures.count l.means));
+      within = λ f e. rw e at (c.add_entry.ensures.within l.written (counted c.list.found _ l.written _ c.count_of.ensures.count l.means));
     }

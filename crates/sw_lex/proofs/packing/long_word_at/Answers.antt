@@ -1,7 +1,7 @@
 use Rattle.std.proofs.Common.{◌<◌, ◌^◌, get_or, arith, sym, ◌∙◌}
 use Rattle.sw_lex.proofs.PackedLemmas.{number_small, bytes_more, packed_more}
 use Rattle.sw_lex.proofs.HeadedLemmas.{long_number, word_more, capital_word, capital_so}
-use Rattle.sw_lex.proofs.packing.word_at.Goals as goal
+use Rattle.sw_lex.proofs.packing.long_word_at.Goals as goal
 
 pub overflow_mul-number : goal.overflow_mul-number
 overflow_mul-number c =

@@ -1,5 +1,5 @@
 use Rattle.sw_channel.proofs.Parts.{none_first, none_second, leads_single, leads_double, channels}
-use Rattle.sw_channel.proofs.parse.read_channel.Goals as goal
+use Rattle.sw_channel.proofs.parse.any_channel.Goals as goal
 
 pub returns-in_default-clause-none : goal.returns-in_default-clause-none
 returns-in_default-clause-none c = none_first channels _ c.in_default.ensures.none
