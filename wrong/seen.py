@@ -1,144 +1,199 @@
 """What a crate sees of the crates below it.
 
-A function is proved against the contracts of others, never against their bodies or proofs. So of a crate below these
-texts decide whether a contract above holds, and no others:
-
-- of the crates that a crate names in crates.txt, each source without the bodies of its functions;
-- each definition, each lemma and each source of a type that one of these, or the crate itself, names, and so on.
-
-Comments, the bodies of functions and what is private to a crate and named nowhere don't count.
+A function is proved against the contracts of others, never against their bodies or proofs. So of the crates below a
+crate sees the definitions, the statements of lemmas, the types with their traits, the constants, and the functions with
+their contracts and without their bodies, that its texts name, or that one of these names, and so on. What a word stands
+for is told by the `use` that brings it. Of a type that is seen, a method is seen where a source of the crate has its
+name, and every trait that it has. Comments don't count.
 """
 import os
 import re
 
-# A module, a definition, a contract or a lemma of a crate, as definitions, proofs and sources name it.
-NAMED = re.compile(r"\bRattle\.(\w+)\.(specs|proofs)((?:\.\+?\w+)*)")
+WORD = re.compile(r"[^\W\d](?:[\w']|-(?=[^\W\d]))*")
+USE = re.compile(r"(?m)^\s*(?:ghost |pub )*use ([^;{\n]*)(?:\{([^}]*)\})?")
 HEAD = re.compile(r"( *)(pub )?(?:pub\(\w+\) )?(?:const |unsafe |ghost )*fn (\w+)")
-IMPLEMENTED = re.compile(r"(?m)^impl\b(?:<.*?>(?= ))?(?: [\w:]+(?:<.*>)? for)? (\w+)")
-DECLARED = re.compile(r"(?m)^pub (?:struct|enum|trait|type) (\w+)")
-USED = re.compile(r"(?m)^(?:pub )?use (\w+)::([^;]*);")
+DECLARED = re.compile(r"(pub )?(?:struct|enum|trait|type|const|static) (\w+)")
+IMPLEMENTED = re.compile(r"impl\b(?:<.*?>(?= ))?(?: ([\w:]+)(?:<.*>)? for)? &?(\w+)")
+DEFINED = re.compile(r"(?:(?:abbrev|pub|record|data|private|opaque) )*([^\W\d][\w'-]*)")
+# What a definition begins with, where it isn't a lemma, whose proof doesn't count.
+WHOLE = re.compile(r"(pub )?(abbrev|record|data)\b")
 
 
-class Source:
-    """A source file of a crate: its text as it is seen from above, and what it declares and implements."""
-
-    def __init__(self, text, names):
-        text = re.sub(r"(?m)^\s*//.*\n|^\s*#\[(?:tactic|inline).*\]\n|\s+//[^\"\n]*$", "", text)
-        self.text = without_bodies(text, names)
-        self.declared = set(DECLARED.findall(text))
-        self.implemented = set(IMPLEMENTED.findall(text))
+def words_of(text):
+    return set(WORD.findall(text))
 
 
-def without_bodies(text, names):
-    """The text without bodies, and without the private functions that have none of these names; traits stay whole."""
-    kept, lines, block = [], text.split("\n"), ""
+class Item:
+    """What may be seen of a file: its names and its text; of a method its type, and of a function whether it is public."""
+
+    def __init__(self, file, names, text, owner=None, is_called=False, is_public=True):
+        self.file, self.names, self.text, self.owner = file, names, text, owner
+        self.crate, self.words, self.is_called, self.is_public = file.split("/")[0], words_of(text), is_called, is_public
+
+
+def blocks_of(text):
+    """The pieces of a text that each begin at the margin, with the attributes before them."""
+    blocks, begun = [], []
+    for line in filter(str.strip, text.split("\n")):
+        is_head = not line[0].isspace() and not line.startswith(("}", ")", "where", "{"))
+        if is_head and begun and not all(it.startswith("#") for it in begun):
+            blocks.append(begun)
+            begun = []
+        begun.append(line)
+    return [*blocks, begun] if begun else blocks
+
+
+def functions_of(lines):
+    """The functions of a block, each as whether it is public, its name, and its head and contract; and what else it has."""
+    lines, found, rest = list(lines), [], []
     while lines:
-        line = lines.pop(0)
-        if line[:1].strip() and not line.startswith(("}", "where", ")")):
-            block = line
-        head = HEAD.match(line)
-        if not head or block.startswith(("pub trait", "trait")):
-            kept.append(line)
+        head = HEAD.match(lines[0])
+        if not head:
+            rest.append(lines.pop(0))
             continue
         indent, public, name = head.groups()
-        item, is_bodied = [line], False
-        while not is_bodied and lines:
+        item, is_bodied = [lines.pop(0)], False
+        while True:
             is_clause = any(re.match(r"\s*(ensures|requires|decreases|where)\b", it) for it in item)
-            ends = item[-1].endswith((" {", " {}")) and not is_clause
-            is_bodied = ends or item[-1] in (f"{indent}{{", f"{indent}{{}}")
-            if not is_bodied:
-                item.append(lines.pop(0))
+            is_bodied = item[-1].endswith((" {", " {}")) and not is_clause
+            if is_bodied or item[-1] in (f"{indent}{{", f"{indent}{{}}") or not lines:
+                break
+            item.append(lines.pop(0))
         if not item[-1].endswith("{}"):
             while lines and lines.pop(0) != f"{indent}}}":
                 pass
-        is_of_a_trait = re.match(r"(pub )?impl\b.* for ", block) is not None
-        if public or is_of_a_trait or name in names:
-            kept += item
-    return "\n".join(filter(str.strip, kept))
+        found.append((public is not None, name, "\n".join(item)))
+    return found, "\n".join(rest)
+
+
+def without_fields(text):
+    """The text of a source without what the model of a type hides."""
+    text = re.sub(r"(?m)^    ghost (?:view|invariant) = (?:.*\n)*?.*};$", "", text)
+    for name in re.findall(r"(?m)^impl\b.*\bModel for (\w+)", text):
+        declared = re.search(rf"(?m)^(?:pub )?struct {name}\b.*{{\n((?:.*\n)*?)}}", text)
+        if declared:
+            told = "\n".join(it for it in declared[1].split("\n") if it.startswith("    pub "))
+            text = text[: declared.start(1)] + told + "\n" + text[declared.end(1) :]
+    return text
+
+
+def source_items(file, text):
+    """The items of a source file."""
+    text = re.sub(r"(?m)^\s*//.*\n|^\s*#!?\[(?:tactic|inline|cycle).*\]\n|\s+//[^\"\n]*$", "", text)
+    text = re.sub(r"(?m)^\s*(?:ghost |pub )*use [^;]*;\n", "", text)
+    items = []
+    for block in blocks_of(without_fields(text)):
+        told = [it for it in block if not it.startswith("#")]
+        ends = next((at for at, it in enumerate(told) if it.endswith("{")), 0)
+        head = re.sub(r"\s+", " ", " ".join(told[: ends + 1]))
+        declared, implemented = DECLARED.match(head), IMPLEMENTED.match(head)
+        functions, rest = functions_of(block)
+        if declared:
+            items.append(Item(file, {declared[2]}, "\n".join(block), is_public=declared[1] is not None))
+        elif implemented and implemented[1]:
+            told = "\n".join([rest, *(told for _, _, told in functions)])
+            # Of every type: seen with its trait.
+            name = implemented[1].split("::")[-1] if len(implemented[2]) == 1 else implemented[2]
+            items.append(Item(file, {name}, told, owner="trait"))
+        else:
+            owner = implemented and implemented[2]
+            top = f"{head}\n" if owner else ""
+            items += [Item(file, {name}, top + told, owner, True, is_public) for is_public, name, told in functions]
+    return items
+
+
+def definition_items(file, text):
+    """The items of a file of definitions or lemmas: of a lemma the statement, of a definition all."""
+    text = re.sub(r"(?m)^\s*--.*\n|\s+-- .*$", "", text)
+    is_proofs, pieces = file.split("/")[1] == "proofs", []
+    for block in blocks_of(text):
+        name = DEFINED.match(block[0])
+        if not name or re.match(r"(pub )?(use|mod) ", block[0]):
+            continue
+        if re.match(r"(pub|abbrev|record|data|private|opaque)\b|[^\W\d][\w'-]* :", block[0]) or not pieces:
+            pieces.append((name[1], block, [], is_proofs and not WHOLE.match(block[0])))
+        else:
+            pieces[-1][2].extend(block)
+    items = []
+    for name, block, equations, is_lemma in pieces:
+        inner = {it[1] for it in (re.match(r"\s+(?:pub )?([^\W\d][\w'-]*) :", line) for line in block) if it}
+        items.append(Item(file, {name, *inner}, "\n".join(block if is_lemma else block + equations)))
+    return items
 
 
 class Crates:
-    """The texts of all crates, by file, and who sees which."""
+    """The texts of all crates, by file, and what each crate sees."""
 
     def __init__(self, root, below):
-        self.root, self.below = root, below
-        self.texts, self.sources, self.right_below = {}, {}, {}
+        self.below, self.texts, self.items, self.uses, self.next = below, {}, {}, {}, {}
         for crate in below:
             for part in ("src", "specs", "proofs"):
                 for at, _, files in os.walk(f"{root}/crates/{crate}/{part}"):
                     for file in files:
                         with open(f"{at}/{file}", encoding="utf-8") as it:
                             self.texts[os.path.relpath(f"{at}/{file}", f"{root}/crates")] = it.read()
-        above = {it: set() for it in below}
         for file, text in self.texts.items():
-            for crate, _, path in NAMED.findall(text):
-                if crate in below and not file.startswith(f"{crate}/"):
-                    above[crate].update(path.split("."))
-        for file, text in self.texts.items():
-            if file.endswith(".rt"):
-                self.sources[file] = Source(text, above[file.split("/")[0]])
-
-    def text(self, file):
-        """The text of a file as it is seen from a crate above."""
-        if file in self.sources:
-            return self.sources[file].text
-        return re.sub(r"(?m)^\s*--.*\n|\s+-- .*$", "", self.texts[file])
+            self.items[file] = source_items(file, text) if file.endswith(".rt") else definition_items(file, text)
+            self.uses[file] = list(self.uses_of(text))
+        self.sources = {it: [one for file in self.files_of(it, "src/") for one in self.items[file]] for it in below}
 
     def files_of(self, crate, part=""):
         return [it for it in self.texts if it.startswith(f"{crate}/{part}")]
 
-    def module(self, crate, folder, path, ends):
-        """The file of the longest beginning of a path that is a module."""
+    @staticmethod
+    def uses_of(text):
+        """For each name that a text takes from elsewhere: the word by which it has it, and its path."""
+        for path, names in USE.findall(text):
+            base = re.findall(r"[\w'+-]+", path.partition(" as ")[0])
+            for name in names.split(",") if names.strip() else [path.partition(" as ")[2]]:
+                taken = re.findall(r"[\w'-]+", name)
+                if taken or not names.strip():
+                    yield (taken or base)[-1], [*base, *taken[:1]] if names.strip() else base
+
+    def module(self, crate, folder, path, end):
+        """The file of the longest beginning of a path that is a module, and what of the path is left."""
         for count in range(len(path), 0, -1):
-            for end in ends:
-                file = f"{crate}/{folder}/{'/'.join(path[:count])}{end}"
-                if file in self.texts:
-                    return file
-        return None
+            for name in (f"{'/'.join(path[:count])}{end}", f"{'/'.join(path[:count])}/mod{end}"):
+                if f"{crate}/{folder}/{name}" in self.texts:
+                    return f"{crate}/{folder}/{name}", path[count:]
+        return None, path
 
-    def source(self, crate, path):
-        """A source, and those with an `impl` of a type that it declares."""
-        file = self.module(crate, "src", path, (".rt", "/mod.rt"))
-        if not file:
+    def resolve(self, crate, path):
+        """The items that a path stands for, in a text of this crate."""
+        if path[0] == "Rattle" and len(path) > 2 and path[1] in self.below:
+            crate, part, rest = path[1], path[2], [it.lstrip("+") for it in path[3:]]
+            is_made = part == "specs" and rest[:1] in (["declared"], ["contracts"])
+            file, left = (None, rest) if is_made else self.module(crate, part, rest, ".antt")
+            if not file:
+                file, left = self.module(crate, "src", rest[1:] if is_made else rest, ".rt")
+        elif path[0] == "crate":
+            file, left = self.module(crate, "src", path[1:], ".rt")
+        elif path[0] in self.below:
+            return [it for it in self.sources[path[0]] if it.is_public and not it.names.isdisjoint(path[1:])]
+        else:
             return []
-        declared = self.sources[file].declared
-        others = self.files_of(crate, "src/")
-        return [file] + [it for it in others if self.sources[it].implemented & declared]
+        return [it for it in self.items.get(file, []) if not left or not it.names.isdisjoint(left)]
 
-    def named(self, crate, part, path):
-        """The files that a name stands for."""
-        if part == "specs" and path[:1] in (["declared"], ["contracts"]):
-            return self.source(crate, path[1:])
-        file = self.module(crate, part, path, (".antt",))
-        return [file] if file else self.source(crate, path)
-
-    def used(self, crate, target, what):
-        """The files that a `use` in a source of this crate stands for."""
-        words = re.findall(r"\w+", what)
-        if target == "crate":
-            return self.source(crate, words) + [file for it in words for file in self.source(crate, [it])]
-        library = self.texts.get(f"{target}/src/lib.rt", "")
-        listed = [(it, set(re.findall(r"\w+", more))) for it, more in re.findall(r"pub use (\w+)::([^;]*);", library)]
-        return [file for it, more in listed if more & set(words) for file in self.source(target, [it])]
-
-    def names(self, file, text):
-        """The files that this text of a file names."""
-        crate = file.split("/")[0]
-        files = [self.named(it, part, path.split(".")[1:]) for it, part, path in NAMED.findall(text)]
-        files += [self.used(crate, *it) for it in USED.findall(text)] if file in self.sources else []
-        return [it for each in files for it in each]
+    def follows(self, item):
+        """The items that one names, and the traits that a type has."""
+        if item not in self.next:
+            own = [it for it in self.items[item.file] if not it.is_called and not it.names.isdisjoint(item.words)]
+            used = [self.resolve(item.crate, path) for word, path in self.uses[item.file] if word in item.words]
+            traits = [it for it in self.sources[item.crate] if it.owner == "trait" and not it.names.isdisjoint(item.names)]
+            self.next[item] = {*own, *traits, *(it for found in used for it in found)}
+        return self.next[item]
 
     def seen_by(self, crate):
-        """The files of the crates below that this one sees."""
-        todo = [file for it in self.below[crate] for file in self.files_of(it, "src/")]
-        todo += [it for file in self.files_of(crate) for it in self.names(file, self.texts[file])]
+        """The items of the crates below that this one sees."""
+        called = {it for file in self.files_of(crate) for it in words_of(self.texts[file])}
+        todo = [it for file in self.files_of(crate) for _, path in self.uses[file] for it in self.resolve(crate, path)]
         seen = set()
         while todo:
-            file = todo.pop()
-            if file in seen or file.startswith(f"{crate}/"):
+            item = todo.pop()
+            if item in seen or item.crate == crate:
                 continue
-            seen.add(file)
-            if file not in self.right_below:
-                self.right_below[file] = self.names(file, self.text(file))
-            todo += self.right_below[file]
-        return sorted(seen)
+            seen.add(item)
+            todo += self.follows(item)
+            methods = (it for it in self.sources[item.crate] if it.is_called and it.owner and it.owner in item.names)
+            todo += [it for it in methods if it.is_public and not it.names.isdisjoint(called)]
+        return sorted(seen, key=lambda it: (it.file, sorted(it.names), it.text))
