@@ -145,7 +145,8 @@ others_printed done c [] i r rs =
 others_printed done c (d ∷ q) i r rs =
     let rest = parts_at 38 (channel_text d ++ others_text q) in
     ap (joined_in newest done) (first_of 38 (channel_text c) (channel_text d ++ others_text q) (channel_lacks 38 refl refl c r))
-    ∙ ap (λ (x : Result Channel ListFault). then_read x (λ (e : Channel). then_read (joined_with newest done e) (λ (p : Position). joined_in newest p rest))) (channel_printed c r)
+    ∙ ap (λ (x : Result Channel ListFault).
+    then_read x (λ (e : Channel). then_read (joined_with newest done e) (λ (p : Position). joined_in newest p rest))) (channel_printed c r)
     ∙ ap (λ (x : Result Position ListFault). then_read x (λ (p : Position). joined_in newest p rest)) (joined_good done c (d ∷ q) i)
     ∙ others_printed (done ++ c ∷ []) d q (subst IsPosition (sym (append_assoc done (c ∷ []) (d ∷ q))) i) rs.0 rs.1
     ∙ ap Ok (append_assoc done (c ∷ []) (d ∷ q))

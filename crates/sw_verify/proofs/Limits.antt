@@ -93,7 +93,8 @@ chosen true x r h = absurd (cc h)
 chosen false x r h = (refl, h)
 
 limited_end : (k to pc : ℕ) (steps : List Step) (fs : List Frame) (gs : List ℕ) → at_loop k to fs (fault_in steps (pc + 1)) ≡ None → AreWithin fs gs
-    → ((es : List Frame) (g : ℕ) (hs : List ℕ) → fault_in steps (pc + 1) es ≡ None → g * room es ≤ most_turns most_counters → AreWithin es hs → AreLimited steps g hs)
+    → ((es : List Frame) (g : ℕ) (hs : List ℕ) → fault_in steps (pc + 1) es ≡ None → g * room es ≤ most_turns most_counters → AreWithin es hs
+    → AreLimited steps g hs)
     → AreLimited (step.Loop k to ∷ steps) 0 gs
 limited_end k to pc steps [] gs h w up = absurd (cc h)
 limited_end k to pc steps (f ∷ fs) [] h w up = absurd w

@@ -2,7 +2,7 @@ use Rattle.std.proofs.Common.{ℕ, ◌≤◌, List, ap, sym, subst}
 use Rattle.sw_base.specs.Limits.{most_slots}
 use Rattle.sw_code.specs.declared.code.Step.{Step}
 use Rattle.sw_code.specs.Code.{Unfolds}
-use Rattle.sw_code.specs.Pace.{IsPaced, IsNear}
+use Rattle.sw_code.specs.Pace.{most_counting, IsPaced, IsNear}
 use Rattle.sw_verify.specs.Items.{items_of}
 use Rattle.sw_verify.specs.Course.{CourseSeen}
 use Rattle.sw_cage.specs.Cage.{ScanSeen}
@@ -12,7 +12,7 @@ use Rattle.sw_cage.proofs.scan.Scan.begin.Goals as goal
 
 pub first-at-requires-clause-paced : goal.first-at-requires-clause-paced
 first-at-requires-clause-paced c =
-    subst (λ (l : List Step). IsPaced l 8) (sym c.steps.ensures.steps) c.into_parts-code.ensures.runs.paced
+    subst (λ (l : List Step). IsPaced l most_counting) (sym c.steps.ensures.steps) c.into_parts-code.ensures.runs.paced
 
 pub invariant_of-result : goal.invariant_of-result
 invariant_of-result c =
