@@ -97,8 +97,8 @@ LeadsTo {I} {V} judge (Ok found) items all = (front : List V) × (length front �
 LeadsTo judge (Err e) items all = all ≡ Err e
 
 -- one more item leads from what was found before it to what is found with it
-abbrev pub TakesItem : {I V : Type 0} → (ℕ → I → Result (List V) ScpiError) → Result (Found V) ScpiError → I → Result (Found V) ScpiError
-    → Type 0
+abbrev pub TakesItem : {I V : Type 0} → (ℕ → I → Result (List V) ScpiError) → Result (Found V) ScpiError → I
+    → Result (Found V) ScpiError → Type 0
 TakesItem {I} {V} judge before item after = (items : List I) (all : Result (List V) ScpiError)
     → LeadsTo judge before (item ∷ items) all → LeadsTo judge after items all
 

@@ -147,6 +147,11 @@ pub word_more : (text : List ℕ) (n : ℕ) → n < length text → AllPass is_w
 word_more text n l a w =
     subst (λ (x : List ℕ). AllPass is_word x) (sym (take_at_read text n 0 l).1) (AllPass-append is_word (take n text) (get_or text n 0 ∷ []) a (w, tt))
 
+pub letter_more : (text : List ℕ) (n : ℕ) → n < length text → AllPass is_letter (take n text) → is_letter (get_or text n 0) ≡ true
+    → AllPass is_letter (take (n + 1) text)
+letter_more text n l a w =
+    subst (λ (x : List ℕ). AllPass is_letter x) (sym (take_at_read text n 0 l).1) (AllPass-append is_letter (take n text) (get_or text n 0 ∷ []) a (w, tt))
+
 pub long_number : (text front rest : List ℕ) (n : ℕ) → Spans is_word text front rest → n ≡ 12 → n < length text → AllPass is_word (take n text)
     → is_word (get_or text n 0) ≡ true → 0 ≡ word_number (take (length front) text)
 long_number text front rest n s e l a w =

@@ -192,6 +192,17 @@ number_few w i n l s a e =
     let k : length (up (take i w)) ≤ 6 = omega (arith, length-map (take i w) to_ascii_uppercase, length-take-le i w l, l, s) in
     omega (arith, e, packed_few (up (take i w)) k a)
 
+-- the same behind a star
+pub star_few : (w : List ℕ) (i n : ℕ) → i ≤ length w → i ≤ 5 → AllPass is_byte (up (take i w)) → n ≡ packed (42 ∷ up (take i w)) → n < 2 ^ 52
+star_few w i n l s a e =
+    let k : length (42 ∷ up (take i w)) ≤ 6 = omega (arith, length-map (take i w) to_ascii_uppercase, length-take-le i w l, l, s) in
+    omega (arith, e, packed_few (42 ∷ up (take i w)) k (refl, a))
+
+pub star_more : (w : List ℕ) (i n u f : ℕ) → i < length w → u ≡ to_ascii_uppercase (get_or w i 0) → f ≡ u → n ≡ packed (42 ∷ up (take i w))
+    → n * 256 + f ≡ packed (42 ∷ up (take (i + 1) w))
+star_more w i n u f l e k h =
+    omega (arith, h, k) ∙ sym (after_append 298 (up (take i w)) u) ∙ ap (λ (x : List ℕ). packed_after 298 x) (sym (up_more w i u l e))
+
 -- ---- the bytes of a number
 
 pub last_length : (k n : ℕ) → length (last_bytes k n) ≤ k

@@ -267,7 +267,7 @@ fn of_removal(alloc: Global, elements: &[Element<'_>]) -> Result<Command, ScpiEr
 }
 
 /// The command of a header with this number in it and these data.
-#[inline(never)]
+#[inline(always)]
 fn decode(
     alloc: Global,
     key: Key,

@@ -2,12 +2,12 @@
 
 ghost use Rattle.std.specs.Prelude.{◌≡◌, true, ◌≤◌, ◌<◌, ◌++◌, ◌∷◌, [], length, map, take, drop};
 ghost use Rattle.std.specs.Char.{to_ascii_uppercase};
-ghost use Rattle.sw_base.specs.Text.{is_word, AllPass, StartsOff};
+ghost use Rattle.sw_base.specs.Text.{is_letter, is_word, AllPass, StartsOff};
 ghost use Rattle.sw_lex.specs.Headed.{most_words, word_number};
 ghost use Rattle.sw_lex.specs.Packed.{capital_of, are_capitals, IsNumberOf, AreNumbersOf};
 
 use arrayvec::ArrayVec;
-use sw_base::{MNEMONIC_BYTES, is_word, words};
+use sw_base::{MNEMONIC_BYTES, is_letter, is_word, words};
 
 /// A word as a number: a one, and then the word's bytes in capitals, the first the most significant. A word that is
 /// longer than each mnemonic of the table is 0.
@@ -93,6 +93,30 @@ fn few_at(text: &[u8]) -> (u64, usize)
     let mut number: u64 = 1;
     while n < most && capital(text[n]) != 0 {
         number = number * 256 + u64::from(capital(text[n]));
+        n += 1;
+    }
+    (number, n)
+}
+
+/// A one and a star as a number.
+const STAR: u64 = 298;
+
+/// So many letters with a star and a one before them are a number of 64 bits.
+pub const FEW_LETTERS: usize = 6;
+
+/// The number of a star and the first letters at the front behind it, and how many letters these are, six at most.
+#[inline(always)]
+pub fn star_at(more: &[u8]) -> (u64, usize)
+    ensures fits { result.1 ≤ length more.now }
+    ensures pass { AllPass is_letter (take result.1 more.now) }
+    ensures off { result.1 < 6 → StartsOff is_letter (drop result.1 more.now) }
+    ensures number { result.1 < 6 → result.0 ≡ word_number (42 ∷ take result.1 more.now) }
+{
+    let most = more.len().min(FEW_LETTERS);
+    let mut n = 0;
+    let mut number = STAR;
+    while n < most && is_letter(more[n]) {
+        number = number * 256 + u64::from(more[n].to_ascii_uppercase());
         n += 1;
     }
     (number, n)

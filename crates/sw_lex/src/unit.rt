@@ -12,7 +12,7 @@ ghost use Rattle.sw_lex.specs.Unit.{IsRefusedUnit, IsBlank, AreJoinedElements, I
 ghost use Rattle.sw_lex.specs.Headed.{path_numbers, header_numbers};
 
 use crate::elements::{before, read_element};
-use crate::packing::{Words, number_of};
+use crate::packing::{FEW_LETTERS, Word, Words, number_of, star_at};
 use crate::raw_unit::RawUnit;
 use crate::runs::{end, fault_at, gaps, name, read_word};
 use sw_base::{ScpiError, blanks, strip_prefix};
@@ -148,6 +148,12 @@ fn read_common<'a>(
     ensures words { IfOk result (λ x. take words.new.count words.new.kept ≡ header_numbers x.0) }
     ensures err { IfErr result (λ e. StartsOff is_letter more.now × (e ≡ fault_at SyntaxError more.now)) }
 {
+    let (number, n) = star_at(more);
+    if 0 < n && n < FEW_LETTERS {
+        let (all, rest) = text.split_at(n + 1);
+        words.push(Word::from(number));
+        return Ok((Header::Common(all), rest));
+    }
     let (letters, _) = name(more)?;
     let (all, rest) = text.split_at(letters.len() + 1);
     words.push(number_of(all));

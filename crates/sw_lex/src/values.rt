@@ -5,7 +5,8 @@ ghost use Rattle.std.specs.Char.{to_ascii_uppercase};
 ghost use Rattle.std.specs.Result.{result_map_both};
 ghost use Rattle.sw_base.specs.Text.{is_blank, is_digit, is_letter, AllPass, Spans};
 ghost use Rattle.sw_base.specs.Number.{Written, rounded};
-ghost use Rattle.sw_lex.specs.Values.{IsQuantity, ReadsQuantity, natural_in, digits_written, whole_of, continuous_of, macros_of};
+ghost use Rattle.sw_lex.specs.Values.{IsQuantity, ReadsQuantity, natural_in, digits_written, whole_of};
+ghost use Rattle.sw_lex.specs.Values.{continuous_of, macros_of};
 ghost use Rattle.sw_lex.specs.Values.{time_unit_of, time_of, source_of, switch_of, source_meant};
 ghost use Rattle.sw_lex.specs.Values.{switch_meant, all_digits, unnumbered};
 

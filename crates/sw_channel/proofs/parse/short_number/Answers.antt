@@ -6,7 +6,8 @@ pub returns-in_default : goal.returns-in_default
 returns-in_default c =
     let a = c.in_ok-one.ensures.found in
     let u = c.in_ok-unpadded.ensures in
-    bare_leads _ (a.0 ∷ []) _ _ (rw (← u.0) at a.1) (a.2, tt) (omega arith) (rw (← u.0) at u.1) (rw (← u.0) at c.in_default.ensures.none) (ap Some (omega (arith, a.3)))
+    bare_leads _ (a.0 ∷ []) _ _ (rw (← u.0) at a.1) (a.2, tt) (omega arith)
+    (rw (← u.0) at u.1) (rw (← u.0) at c.in_default.ensures.none) (ap Some (omega (arith, a.3)))
 
 pub returns-in_default-read_digit : goal.returns-in_default-read_digit
 returns-in_default-read_digit c =

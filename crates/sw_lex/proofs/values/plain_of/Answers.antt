@@ -6,7 +6,8 @@ use Rattle.sw_lex.proofs.values.plain_of.Goals as goal
 pub returns-then-n-least : goal.returns-then-n-least
 returns-then-n-least c =
     elim c.then-n-least.branch [
-      | then-n-least-via-then-n-least w ↦ sym (whole_below c.args.ask c.args.number c.args.digits.now (omega (arith, c.least.ensures, c.value-n.ensures, w.if-n-least.true)))
+      | then-n-least-via-then-n-least w ↦ sym (whole_below c.args.ask c.args.number c.args.digits.now
+          (omega (arith, c.least.ensures, c.value-n.ensures, w.if-n-least.true)))
       | then-n-least-via-else-n-least+then-n-greatest w ↦ sym (whole_above c.args.ask c.args.number c.args.digits.now
           (omega (arith, w.greatest.ensures, c.value-n.ensures, w.if-n-greatest.true)))
     ]
