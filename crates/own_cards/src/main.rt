@@ -23,6 +23,7 @@ use std::io;
 use std::io::{BufReader, ErrorKind};
 use sw_card::{Meter, Relay};
 use sw_kinds::{Matrix, Mux, Volt};
+use sw_serve::OwnCard;
 use uses::{answer, serve};
 
 fn main(rt: HostRuntime) -> Result<(), Fault> {
@@ -43,7 +44,13 @@ fn main(rt: HostRuntime) -> Result<(), Fault> {
     let matrix: Box<dyn Relay + Send> = Box::new(alloc, Matrix::new(3, 16, third))?;
     let source = LineSource::new(alloc, lines);
     let meter: Box<dyn Meter + Send> = Box::new(alloc, Volt::new(4, source))?;
-    let cards = in_rack(alloc, first, second, matrix, meter)?;
+    let cards = vec![in alloc;
+        OwnCard::Relays(first),
+        OwnCard::Relays(second),
+        OwnCard::Relays(matrix),
+        OwnCard::Measures(meter),
+    ]?;
+    let cards = in_rack(alloc, cards)?;
     match order.parse::<u16>() {
         Ok(port) => serve(rt, alloc, port, rt.reader(), cards),
         Err(_) => answer(alloc, &mut rt.reader(), &mut io::writer(&rt), cards),
