@@ -5,7 +5,8 @@ use Rattle.std.specs.Prelude.{pos, negsuc, codes}
 use Rattle.std.proofs.Math.Nat.{div-one, div-div-eq-div-mul, pow-succ', div-le_self}
 use Rattle.std.proofs.lemmas.Bool.{cases_lt}
 use Rattle.std.specs.Fmt.{decimal}
-use Rattle.std.proofs.lemmas.List.{append_assoc, drop-set, length_push, length-append, length-drop, take_more_set, take_at, drop-set-lt, drop-drop, drop_at, length-set, set_comm, take-append-drop}
+use Rattle.std.proofs.lemmas.List.{append_assoc, drop-set, length_push, length-append, length-drop, take_more_set, take_at, drop-set-lt, drop-drop, drop_at}
+use Rattle.std.proofs.lemmas.List.{length-set, set_comm, take-append-drop}
 use Rattle.std.proofs.lemmas.List.{same_from_push, get_or_append_left}
 use Rattle.std.proofs.lemmas.Fmt.{decimal_digit, decimal_step, decimal_by_steps, decimal_nonempty, first_decimal, decimal_injective}
 use lib.Ieee.Fits.{and_l, and_r}

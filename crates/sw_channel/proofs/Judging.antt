@@ -337,13 +337,15 @@ pub range_full : (count : ℕ) (v w : WrittenChannel) (run : Run) (more : ℕ) �
     → 512 - more < count → positions_judged count (single_each v w) ≡ Err TooMuchData
 range_full count v w run more m n h =
     let l = length-alone run more n in
-    ap (λ (o : Option (List Position)). fitting count o) (run_named v w (Some run) m) ∙ (let full : nat_le (count + length (map alone (channels_in run))) 512 ≡ false = lt-leb _ _ (omega (arith, h, l)) in rw full refl)
+    ap (λ (o : Option (List Position)). fitting count o) (run_named v w (Some run) m)
+    ∙ (let full : nat_le (count + length (map alone (channels_in run))) 512 ≡ false = lt-leb _ _ (omega (arith, h, l)) in rw full refl)
 
 pub range_fits : (count : ℕ) (v w : WrittenChannel) (run : Run) (more : ℕ) → MeansRun (range v w) (Some run) → more ≡ count_between run.first.1 run.last.1
     → more ≤ 99 → count ≤ 512 - more → positions_judged count (single_each v w) ≡ Ok (map alone (channels_in run))
 range_fits count v w run more m n k h =
     let l = length-alone run more n in
-    ap (λ (o : Option (List Position)). fitting count o) (run_named v w (Some run) m) ∙ (let room : nat_le (count + length (map alone (channels_in run))) 512 ≡ true = le-leb _ _ (omega (arith, h, k, l)) in rw room refl)
+    ap (λ (o : Option (List Position)). fitting count o) (run_named v w (Some run) m)
+    ∙ (let room : nat_le (count + length (map alone (channels_in run))) 512 ≡ true = le-leb _ _ (omega (arith, h, k, l)) in rw room refl)
 
 -- ---- the channels of a range, one after another
 

@@ -160,12 +160,14 @@ arms_more k n place name l arms inside before h body after e p q b a =
     let within : flatten (line items (arms_tree (k + 1) arms inside)) (n + 1) ≡ h ++ body =
     ap (flatten (line items (arms_tree (k + 1) arms inside))) (sym p)
     ∙ flatten-line items (arms_tree (k + 1) arms inside) place
-    ∙ ap (λ (m : ℕ). steps_of items ++ flatten (arms_tree (k + 1) arms inside) m) (let r : place + length items ≡ place + length h = omega (arith, ap length q, length-map items step_of) in r)
+    ∙ ap (λ (m : ℕ). steps_of items ++ flatten (arms_tree (k + 1) arms inside) m)
+    (let r : place + length items ≡ place + length h = omega (arith, ap length q, length-map items step_of) in r)
     ∙ ap (λ (x : List Step). steps_of items ++ x) (sym b) ∙ ap (λ (x : List Step). x ++ body) (sym q) in
     let whole : flatten (arms_tree k ((name, l) ∷ arms) inside) n ≡ step.Set k l.count ∷ ((h ++ body) ++ step.Loop k place ∷ []) =
     ap (λ (x : List Step). step.Set k l.count ∷ (x ++ step.Loop k (n + 1) ∷ [])) within
     ∙ ap (λ (m : ℕ). step.Set k l.count ∷ ((h ++ body) ++ step.Loop k m ∷ [])) (sym p) in
-    let turned : ((before ++ (step.Set k l.count ∷ h)) ++ body) ++ step.Loop k place ∷ [] ≡ before ++ (step.Set k l.count ∷ ((h ++ body) ++ step.Loop k place ∷ [])) =
+    let turned : ((before ++ (step.Set k l.count ∷ h)) ++ body) ++ step.Loop k place ∷ []
+    ≡ before ++ (step.Set k l.count ∷ ((h ++ body) ++ step.Loop k place ∷ [])) =
     simp append_assoc in
     a ∙ turned ∙ sym (ap (λ (x : List Step). before ++ x) whole)
 
@@ -206,8 +208,12 @@ looped_is s place body rest h e f =
     let inside : flatten (line (passes s 0 n) Nil) (place + 1) ≡ body = flatten-line (passes s 0 n) Nil (place + 1) ∙ append-nil (steps_of (passes s 0 n))
     ∙ sym e in
     sym (ap (λ b. flatten (cond b tail (Times most_arm_layers q (line (passes s 0 n) Nil) tail)) place) t
-    ∙ ap (λ (l : List Step). step.Set most_arm_layers q ∷ (l ++ (step.Loop most_arm_layers (place + 1) ∷ flatten tail (place + 2 + size (line (passes s 0 n) Nil))))) inside
-    ∙ ap (λ (l : List Step). step.Set most_arm_layers q ∷ (body ++ (step.Loop most_arm_layers (place + 1) ∷ l))) (end (place + 2 + size (line (passes s 0 n) Nil))))
+    ∙ ap
+    (λ (l : List Step). step.Set most_arm_layers q
+    ∷ (l ++ (step.Loop most_arm_layers (place + 1) ∷ flatten tail (place + 2 + size (line (passes s 0 n) Nil)))))
+    inside
+    ∙ ap (λ (l : List Step). step.Set most_arm_layers q ∷ (body ++ (step.Loop most_arm_layers (place + 1) ∷ l)))
+    (end (place + 2 + size (line (passes s 0 n) Nil))))
 
 pub plain_is : (s : SettingsSeen) (place : ℕ) (rest : List Step) → s.trigger.count / length s.list ≡ 0
     → rest ≡ steps_of (passes s 0 (s.trigger.count % length s.list))

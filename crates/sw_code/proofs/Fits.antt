@@ -82,7 +82,8 @@ map-append-awaits (x ∷ xs) ys = ap (λ (l : List Item). Awaits x ∷ l) (map-a
 fits-head : {most : ℕ} (name : LayerName) (l : Layer) → IsLayer most l → Fits (map Awaits (head_of name l))
 fits-head name l h =
     subst Fits (sym (map-append-awaits (wait_of name l) (pause_of l.delay_us)))
-    (fits-append (map Awaits (wait_of name l)) (map Awaits (pause_of l.delay_us)) (fits-wait name l.source l.timer_us h.timer).0 (fits-pause l.delay_us h.delay).0)
+    (fits-append (map Awaits (wait_of name l)) (map Awaits (pause_of l.delay_us)) (fits-wait name l.source l.timer_us h.timer).0
+    (fits-pause l.delay_us h.delay).0)
 
 length-head : {most : ℕ} (name : LayerName) (l : Layer) → IsLayer most l → length (map Awaits (head_of name l)) ≤ 2
 length-head name l h =
@@ -122,7 +123,9 @@ module _ (s : SettingsSeen) (h : IsLayer most_trigger_count s.trigger) where
 
       at : (q : ℕ) → q ≤ s.trigger.count
           → IsFit (cond (eqb q 0) (line (passes s 0 left) Nil) (Times most_arm_layers q (line (passes s 0 (length s.list)) Nil) (line (passes s 0 left) Nil)))
-          × (size (cond (eqb q 0) (line (passes s 0 left) Nil) (Times most_arm_layers q (line (passes s 0 (length s.list)) Nil) (line (passes s 0 left) Nil))) ≤ 5122)
+          × (size
+          (cond (eqb q 0) (line (passes s 0 left) Nil)
+          (Times most_arm_layers q (line (passes s 0 (length s.list)) Nil) (line (passes s 0 left) Nil))) ≤ 5122)
       at zero below =
           let r = fit-some left in
           let small : left < length s.list = mod_below s.trigger.count (length s.list) some in
@@ -138,7 +141,9 @@ module _ (s : SettingsSeen) (h : IsLayer most_trigger_count s.trigger) where
           let count : suc q ≤ 100000 = omega arith in
           let last : most_arm_layers < most_counters = omega arith in
           let one : 1 ≤ suc q = omega arith in
-          subst (λ (b : Bool). IsFit (cond b rest (Times most_arm_layers (suc q) body rest)) × (size (cond b rest (Times most_arm_layers (suc q) body rest)) ≤ 5122)) (sym e)
+          subst
+          (λ (b : Bool). IsFit (cond b rest (Times most_arm_layers (suc q) body rest))
+          × (size (cond b rest (Times most_arm_layers (suc q) body rest)) ≤ 5122)) (sym e)
           (((last, one, count), a.0, r.0), few)
 
 abbrev AreLayers : List NamedLayer → Type 0

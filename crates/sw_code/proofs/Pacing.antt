@@ -200,7 +200,9 @@ passes_within s some count = at (s.trigger.count / length s.list) (s.trigger.cou
       let body = line (passes s 0 (length s.list)) Nil in
       let rest = line (passes s 0 r) Nil in
       let item : HasItem body = item-some (passes s 0 (length s.list)) Nil (passes_some s (length s.list) some) in
-      subst (λ (b : Bool). HasItem (cond b rest (Times most_arm_layers (suc q) body rest)) × IsWithin 1 (cond b rest (Times most_arm_layers (suc q) body rest))) (sym f)
+      subst
+      (λ (b : Bool). HasItem (cond b rest (Times most_arm_layers (suc q) body rest)) × IsWithin 1 (cond b rest (Times most_arm_layers (suc q) body rest)))
+      (sym f)
       (item, (item, within-line 0 (passes s 0 (length s.list)) Nil tt, within-line 1 (passes s 0 r) Nil tt))
 
 -- each ARM layer is one loop more
@@ -210,11 +212,13 @@ arms_item k (arm ∷ arms) inside h = item-line (map Awaits (head_of arm.0 arm.1
 
 arms_within : (k d : ℕ) (arms : List NamedLayer) (inside : Tree) → HasItem inside → IsWithin d inside → IsWithin (length arms + d) (arms_tree k arms inside)
 arms_within k d [] inside h w = let e : d ≡ 0 + d = omega arith in subst (λ (n : ℕ). IsWithin n inside) e w
-arms_within k d (arm ∷ arms) inside h w = let e : suc (length arms + d) ≡ suc (length arms) + d = omega arith in subst (λ (n : ℕ). IsWithin n (arms_tree k (arm ∷ arms) inside)) e (
-  item-line (map Awaits (head_of arm.0 arm.1)) (arms_tree (k + 1) arms inside) (arms_item (k + 1) arms inside h),
-  within-line (length arms + d) (map Awaits (head_of arm.0 arm.1)) (arms_tree (k + 1) arms inside) (arms_within (k + 1) d arms inside h w),
-  tt,
-)
+arms_within k d (arm ∷ arms) inside h w =
+    let e : suc (length arms + d) ≡ suc (length arms) + d = omega arith in
+    subst (λ (n : ℕ). IsWithin n (arms_tree k (arm ∷ arms) inside)) e (
+      item-line (map Awaits (head_of arm.0 arm.1)) (arms_tree (k + 1) arms inside) (arms_item (k + 1) arms inside h),
+      within-line (length arms + d) (map Awaits (head_of arm.0 arm.1)) (arms_tree (k + 1) arms inside) (arms_within (k + 1) d arms inside h w),
+      tt,
+    )
 
 -- the code of settings
 pub compiled_paced : (s : SettingsSeen) → 0 < length s.list → IsInRange s → IsPaced (compiled s).steps most_counting

@@ -25,7 +25,8 @@ use Rattle.sw_code.specs.declared.fault.ListError.{ListError}
 use Rattle.sw_code.specs.Range.{Program, most_steps, IsStep, IsInChannelRange, IsPositionInRange, HasPosition, IsProgramInRange}
 use Rattle.sw_base.specs.Limits.{most_slots, most_channels, most_counters, most_trigger_count, longest_delay}
 use Rattle.sw_code.specs.Listing.{layer_word, channel_text, others_text, position_text, line_of, listed_lines, parts_of, listing_of}
-use Rattle.sw_code.specs.Reading.{parts_at, then_read, is_numeral, number_in, channel_in, joined_with, joined_in, position_in, step_in, meter_in, on_line, numbered_step, steps_in}
+use Rattle.sw_code.specs.Reading.{parts_at, then_read, is_numeral, number_in, channel_in, joined_with, joined_in, position_in, step_in, meter_in, on_line}
+use Rattle.sw_code.specs.Reading.{numbered_step, steps_in}
 use Rattle.sw_code.specs.Reading.{code_after_version, code_of_lines, code_in}
 use Rattle.sw_code.specs.Versions.{newest, first_parts}
 use Rattle.sw_code.specs.declared.version.Version.{Version}
@@ -132,7 +133,8 @@ joined_good done c q i =
     let n : length (done ++ c ∷ q) ≡ length done + suc (length q) = length-append done (c ∷ q) in
     let few = i.few in
     let t : nat_lt (length done) most_joined ≡ true = let k : length done < most_joined = omega (arith, n, few) in grind (arith, nat_tests) in
-    ap (λ (b : Bool). cond b (Err BadNumber) (cond (nat_lt (length done) most_joined) (Ok (done ++ c ∷ [])) (Err BadNumber))) (different_apart done c q i.different)
+    ap (λ (b : Bool). cond b (Err BadNumber) (cond (nat_lt (length done) most_joined) (Ok (done ++ c ∷ [])) (Err BadNumber)))
+    (different_apart done c q i.different)
     ∙ ap (λ (b : Bool). cond b (Ok (done ++ c ∷ [])) (Err BadNumber)) t
 
 others_printed : (done : Position) (c : Channel) (q : Position) → IsPosition (done ++ c ∷ q) → IsInChannelRange c → AllByRecursion IsInChannelRange q
@@ -213,7 +215,8 @@ step_printed (step.Open p) i h =
 step_printed (step.Loop k to) i h =
     let p : k ≤ longest_delay = omega (arith, i.0) in
     let q : to ≤ longest_delay = omega (arith, i.1) in
-    ap (step_in newest) (three_parts (codes "loop") (decimal k) (decimal to) (refl, (refl, (refl, (refl, tt)))) (digits_lack 32 refl k p) (digits_lack 32 refl to q))
+    ap (step_in newest)
+    (three_parts (codes "loop") (decimal k) (decimal to) (refl, (refl, (refl, (refl, tt)))) (digits_lack 32 refl k p) (digits_lack 32 refl to q))
     ∙ ap (λ (x : Result ℕ ListFault).
     then_read x (λ (m : ℕ). then_read (number_in 0 (most_steps - 1) (decimal to)) (λ (j : ℕ). Ok (step.Loop m j)))) (counter_printed k i.0)
     ∙ ap (λ (x : Result ℕ ListFault). then_read x (λ (j : ℕ). Ok (step.Loop k j))) (number_printed 0 (most_steps - 1) to (omega arith) (omega (arith, i.1)) q)
@@ -227,12 +230,14 @@ line_lacks (step.Set k n) i h =
       refl,
       (refl, (refl, tt)),
     ) (join_lacks (decimal k) (decimal n) (digits_lack 10 refl k p) (digits_lack 10 refl n q))
-line_lacks (step.Wait name) i h = join_lacks (codes "wait") (layer_word name) (refl, (refl, (refl, (refl, tt)))) (layer_lacks 10 refl refl refl refl refl refl refl name)
+line_lacks (step.Wait name) i h = join_lacks (codes "wait") (layer_word name) (refl, (refl, (refl, (refl, tt))))
+    (layer_lacks 10 refl refl refl refl refl refl refl name)
 line_lacks (step.Timer name micros) i h =
     join_lacks (codes "timer") (layer_word name ++ 32 ∷ decimal micros) (refl, (refl, (refl, (refl, (refl, tt)))))
     (join_lacks (layer_word name) (decimal micros) (layer_lacks 10 refl refl refl refl refl refl refl name) (digits_lack 10 refl micros i.1))
 line_lacks (step.Pause micros) i h = join_lacks (codes "pause") (decimal micros) (refl, (refl, (refl, (refl, (refl, tt))))) (digits_lack 10 refl micros i.1)
-line_lacks (step.Close p) i h = join_lacks (codes "close") (position_text p) (refl, (refl, (refl, (refl, (refl, tt))))) (position_lacks 10 refl refl refl p h.channels)
+line_lacks (step.Close p) i h = join_lacks (codes "close") (position_text p) (refl, (refl, (refl, (refl, (refl, tt)))))
+    (position_lacks 10 refl refl refl p h.channels)
 line_lacks step.Read i h = (refl, (refl, (refl, (refl, tt))))
 line_lacks (step.Open p) i h = join_lacks (codes "open") (position_text p) (refl, (refl, (refl, (refl, tt)))) (position_lacks 10 refl refl refl p h.channels)
 line_lacks (step.Loop k to) i h =

@@ -206,7 +206,8 @@ act_more : (o : Option Step) (f g : Next) (pc : ℕ) (cs : Counters) (l : List I
 act_more None f g pc cs l up h = h
 act_more (Some (step.Set k n)) f g pc cs l up h = up (pc + 1) (put k n cs) l h
 act_more (Some (step.Wait name)) f g pc cs l up h = passing_some (Awaits (Wait name)) (f (pc + 1) cs) (g (pc + 1) cs) l h (λ m e. up (pc + 1) cs m e)
-act_more (Some (step.Timer name micros)) f g pc cs l up h = passing_some (Awaits (Period name micros)) (f (pc + 1) cs) (g (pc + 1) cs) l h (λ m e. up (pc + 1) cs m e)
+act_more (Some (step.Timer name micros)) f g pc cs l up h = passing_some (Awaits (Period name micros)) (f (pc + 1) cs) (g (pc + 1) cs) l h
+    (λ m e. up (pc + 1) cs m e)
 act_more (Some (step.Pause micros)) f g pc cs l up h = passing_some (Awaits (Pause micros)) (f (pc + 1) cs) (g (pc + 1) cs) l h (λ m e. up (pc + 1) cs m e)
 act_more (Some (step.Close c)) f g pc cs l up h = passing_some (Close c) (f (pc + 1) cs) (g (pc + 1) cs) l h (λ m e. up (pc + 1) cs m e)
 act_more (Some step.Read) f g pc cs l up h = passing_some (Awaits Read) (f (pc + 1) cs) (g (pc + 1) cs) l h (λ m e. up (pc + 1) cs m e)

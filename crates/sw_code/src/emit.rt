@@ -57,7 +57,8 @@ fn put_arms(
     requires counters { counter + length arms.now < 100 }
     ensures range { settled.IsInRange settings.now }
     ensures steps { OnOk result (steps.new.items ≡ steps.old.items
-        ++ flatten (arms_tree counter (named settings.now arms.now) (passes_tree settings.now)) (length steps.old.items)) }
+        ++ flatten (arms_tree counter (named settings.now arms.now) (passes_tree settings.now))
+        (length steps.old.items)) }
 {
     match arms {
         [] => put_rounds(steps, settings),

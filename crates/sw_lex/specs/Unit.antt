@@ -270,7 +270,8 @@ BeginsNone text e = (kind_at text ≡ None) × (e ≡ fault_at SyntaxError text)
 
 -- an element begins here, as the seventeenth
 abbrev pub IsSeventeenth : ℕ → List ℕ → ScpiError → Type 0
-IsSeventeenth n text e = (n ≡ most_elements) × (kind : ElementKind) × (kind_at text ≡ Some kind) × (e ≡ ParameterNotAllowed)
+IsSeventeenth n text e = (n ≡ most_elements) × (kind : ElementKind) × (kind_at text ≡ Some kind)
+    × (e ≡ ParameterNotAllowed)
 
 -- a string that has no end
 pub record IsOpenString (text : List ℕ) (e : ScpiError) : Type 0 where

@@ -157,7 +157,8 @@ some_there (x ∷ l) (suc i) h e = some_there l i (omega arith) e
 
 -- the product that the turns of a layer come to
 pub turned : (count head inside c : ℕ) → 1 ≤ count → head ≤ 2 → c ≡ count → (2 + inside) * count < 18446744073709551616
-    → (head + inside < 18446744073709551616) × (c * (head + inside) < 18446744073709551616) × (inside ≤ c * (head + inside)) × (c * (head + inside) ≤ (2 + inside) * count)
+    → (head + inside < 18446744073709551616) × (c * (head + inside) < 18446744073709551616) × (inside ≤ c * (head + inside))
+    × (c * (head + inside) ≤ (2 + inside) * count)
 turned count head inside c some small same fits =
     let least : head + inside ≤ (head + inside) * count = le-mul_of_pos_right (head + inside) some in
     let swap : (head + inside) * count ≡ count * (head + inside) = mul_comm (head + inside) count in

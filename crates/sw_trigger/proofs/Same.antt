@@ -52,7 +52,12 @@ layer_back a b e =
 
 test_refl : (a : Layer) → layers_test a a ≡ true
 test_refl a =
-    rw ((Decides-eqb a.count a.count).1 refl, (source_decides a.source a.source).1 refl, (Decides-eqb a.delay_us a.delay_us).1 refl, (Decides-eqb a.timer_us a.timer_us).1 refl) refl
+    rw (
+      (Decides-eqb a.count a.count).1 refl,
+      (source_decides a.source a.source).1 refl,
+      (Decides-eqb a.delay_us a.delay_us).1 refl,
+      (Decides-eqb a.timer_us a.timer_us).1 refl,
+    ) refl
 
 layer_decides : (a b : Layer) → Decides (layers_test a b) (a ≡ b)
 layer_decides a b = (layer_back a b, λ e. ap (layers_test a) (sym e) ∙ test_refl a)
@@ -103,7 +108,8 @@ position_decides a b =
     ∙ ap (λ (l : List Channel). take (length a) l) e.0 ∙ ap (λ (n : ℕ). take n (filled b)) e.1
     ∙ take_front b (replicate (most_joined - length b) (first_of b)))
     (λ (e : a ≡ b). (ap filled e, ap length e))
-    (Decides-and (pointwise same_channel (filled a) (filled b)) (eqb (length a) (length b)) (channels_sides (filled a) (filled b)) (Decides-eqb (length a) (length b)))
+    (Decides-and (pointwise same_channel (filled a) (filled b)) (eqb (length a) (length b)) (channels_sides (filled a) (filled b))
+    (Decides-eqb (length a) (length b)))
 
 pub positions_decide : (xs ys : List Position) (r : Bool) → r ≡ pointwise same_position xs ys → Decides r (xs ≡ ys)
 positions_decide = slice_eq-Decides position_decides

@@ -57,8 +57,8 @@ abbrev pub times : List NamedLayer → ℕ → ℕ
 times [] n = n
 times (arm ∷ arms) n = arm.1.count * times arms n
 
--- the most that so many ARM layers round the passes await, and read: on each turn a wait and a pause, and in each pass a
--- reading
+-- the most that so many ARM layers round the passes await, and read: on each turn a wait and a pause, and in each pass
+-- a reading
 abbrev pub most_awaited : ℕ → ℕ
 most_awaited zero = most_trigger_count * (2 + 1)
 most_awaited (suc arms) = most_arm_count * (2 + most_awaited arms)

@@ -3,7 +3,8 @@
 use Rattle.std.specs.Prelude.{◌≡◌, ℕ, ◌-◌, ◌≤◌, List, [], length, map, replicate, slice_index_or, slice_set}
 use Rattle.sw_channel.specs.Positions.{Position}
 pub use Rattle.sw_base.specs.Limits.{longest_delay}
-use Rattle.sw_base.specs.Limits.{most_slots, most_entries, most_points, most_arm_layers, most_arm_count, most_trigger_count}
+use Rattle.sw_base.specs.Limits.{most_slots, most_entries, most_points, most_arm_layers, most_arm_count}
+use Rattle.sw_base.specs.Limits.{most_trigger_count}
 use Rattle.sw_base.specs.declared.terms.Source.TheVariants.{Immediate}
 use Rattle.sw_base.specs.Layers.{arm_layers, number_of}
 use Rattle.sw_base.specs.declared.terms.ArmLayer.{ArmLayer}

@@ -15,11 +15,12 @@ use sw_base::{
 };
 use sw_channel::Position;
 
-/// What a scan does: the layers of the trigger model, a list of positions, the slot of its meter and its room for readings.
+/// What a scan does: the layers of the trigger model, a list of positions, the slot of its meter and its room for
+/// readings.
 ///
 /// Contracts see a plain record. Counts are 1 to `ARM_COUNT` for an ARM layer and 1 to `TRIGGER_COUNT` for TRIGger,
-/// delays at most an hour, timers 1 microsecond to an hour, the meter's slot 1 to `SLOTS`, the points 1 to `POINTS`, and
-/// the list has at most `LIST_ENTRIES` positions.
+/// delays at most an hour, timers 1 microsecond to an hour, the meter's slot 1 to `SLOTS`, the points 1 to `POINTS`,
+/// and the list has at most `LIST_ENTRIES` positions.
 #[derive(Debug, Drop)]
 pub struct Settings {
     /// The ARM layers, the outermost first.

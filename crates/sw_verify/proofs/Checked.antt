@@ -121,10 +121,12 @@ module _ (layout : Layout) (closed : List Channel) (s : SettingsSeen) (listed : 
   pub sound_from_free : AllByRecursion (CanCloseEach layout (is_among closed)) (used_of s) → reads (agenda s) ≤ s.points
       → IsSound layout (is_among closed) s.points (agenda s)
   sound_from_free f r =
-      (sound_exactly layout (is_among closed) anyone s (λ k. tt) s.points listed range).1 (λ j h. used_each (CanCloseEach layout (is_among closed)) s listed f j h, r)
+      (sound_exactly layout (is_among closed) anyone s (λ k. tt) s.points listed range).1
+      (λ j h. used_each (CanCloseEach layout (is_among closed)) s listed f j h, r)
 
   pub free_from_sound : IsSound layout (is_among closed) s.points (agenda s) → AllByRecursion (CanCloseEach layout (is_among closed)) (used_of s)
-  free_from_sound w = each_used (CanCloseEach layout (is_among closed)) s ((sound_exactly layout (is_among closed) anyone s (λ k. tt) s.points listed range).0 w).0
+  free_from_sound w = each_used (CanCloseEach layout (is_among closed)) s
+      ((sound_exactly layout (is_among closed) anyone s (λ k. tt) s.points listed range).0 w).0
 
   pub present_from_sound : IsSound layout (is_among closed) s.points (agenda s) → list_all (list_all (is_present layout)) (used_of s) ≡ true
   present_from_sound w = all_each (list_all (is_present layout)) (CanCloseEach layout (is_among closed)) (each_present layout (is_among closed)) (used_of s)

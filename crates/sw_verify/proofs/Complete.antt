@@ -1,5 +1,6 @@
 -- What settings compile to passes the verifier's looks, where their agenda is sound.
-use Rattle.std.proofs.Common.{◌≡◌, ℕ, zero, suc, ◌+◌, ◌*◌, ◌/◌, ◌%◌, ◌<◌, ◌≤◌, Bool, true, false, not, ◌||◌, cond, eqb, List, [], ◌∷◌, ◌++◌, length, map, Option}
+use Rattle.std.proofs.Common.{◌≡◌, ℕ, zero, suc, ◌+◌, ◌*◌, ◌/◌, ◌%◌, ◌<◌, ◌≤◌, Bool, true, false, not, ◌||◌, cond, eqb, List, [], ◌∷◌, ◌++◌, length, map}
+use Rattle.std.proofs.Common.{Option}
 use Rattle.std.proofs.Common.{Some, None, refl, sym, ap, ◌∙◌, subst, arith, append_assoc, append-nil}
 use Rattle.std.proofs.lemmas.Bool.{both_ways, false_from_ne_true}
 use Rattle.std.proofs.lemmas.Bool.Decides.{nat_tests}
@@ -189,7 +190,8 @@ module _ (layout : Layout) (b : Channels) (s : SettingsSeen) (range : IsInRange 
     left = s.trigger.count % length s.list
 
     at : (q : ℕ) → q * length s.list + left ≡ s.trigger.count
-        → IsLevel layout b none (cond (eqb q 0) (line (passes s 0 left) Nil) (Times most_arm_layers q (line (passes s 0 (length s.list)) Nil) (line (passes s 0 left) Nil)))
+        → IsLevel layout b none
+        (cond (eqb q 0) (line (passes s 0 left) Nil) (Times most_arm_layers q (line (passes s 0 (length s.list)) Nil) (line (passes s 0 left) Nil)))
     at zero e = level-line layout b none (passes s 0 left)
     at (suc q) e =
         let n = length s.list in
@@ -199,9 +201,11 @@ module _ (layout : Layout) (b : Channels) (s : SettingsSeen) (range : IsInRange 
         let body = line (passes s 0 n) Nil in
         let is : meaning body ≡ passes s 0 n = meaning-line (passes s 0 n) Nil ∙ append-nil (passes s 0 n) in
         let eb : effect b (meaning body) ≡ b = ap (effect b) is ∙ (round-passes layout b anyone s (λ k. tt) 0 n).keeps (λ j h g. can j (omega arith)) in
-        let em : effect none (meaning body) ≡ none = ap (effect none) is ∙ (round-passes layout none anyone s (λ k. tt) 0 n).keeps (λ j h g. free j (omega arith)) in
+        let em : effect none (meaning body) ≡ none = ap (effect none) is
+        ∙ (round-passes layout none anyone s (λ k. tt) 0 n).keeps (λ j h g. free j (omega arith)) in
         let some : 0 < suc q = omega arith in
-        subst (λ (v : Bool). IsLevel layout b none (cond v (line (passes s 0 left) Nil) (Times most_arm_layers (suc q) body (line (passes s 0 left) Nil)))) (sym f)
+        subst (λ (v : Bool). IsLevel layout b none (cond v (line (passes s 0 left) Nil) (Times most_arm_layers (suc q) body (line (passes s 0 left) Nil))))
+        (sym f)
         (some, level-line layout b none (passes s 0 n), eb, em, level-line layout b none (passes s 0 left))
 
   level-tree : IsLevel layout b none (tree_of s)

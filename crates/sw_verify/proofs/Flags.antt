@@ -1,5 +1,6 @@
 -- Flags as bits of words: one set and one cleared, how many there are, and rows that are the same.
-use Rattle.std.proofs.Common.{◌≡◌, ◌≢◌, ℕ, zero, suc, ◌+◌, ◌-◌, ◌*◌, ◌/◌, ◌%◌, ◌^◌, ◌<◌, ◌≤◌, Bool, true, false, ◌==◌, List, [], ◌∷◌, length, get_or, set, replicate, refl, sym, ap, ◌∙◌, arith, bit_and, bit_or}
+use Rattle.std.proofs.Common.{◌≡◌, ◌≢◌, ℕ, zero, suc, ◌+◌, ◌-◌, ◌*◌, ◌/◌, ◌%◌, ◌^◌, ◌<◌, ◌≤◌, Bool, true, false, ◌==◌, List, [], ◌∷◌, length, get_or, set}
+use Rattle.std.proofs.Common.{replicate, refl, sym, ap, ◌∙◌, arith, bit_and, bit_or}
 use Rattle.std.proofs.Common.{◌⊎◌, inl, inr, eqb}
 use mir.Syntax.{w64}
 use Rattle.std.specs.Int.{bit_at, bit_not}

@@ -198,7 +198,8 @@ row_tells_one start b b' m m' row row' t t' e =
 pub one_row : (start b b' m m' : Channels) (row row' : List Bool) → TellsRow start b m row → TellsRow start b' m' row' → m ≡ m' → row ≡ row'
 one_row start b b' m m' row row' t t' e =
     ext_get_or false row row' (t.size ∙ sym t'.size)
-    (λ j h. let below : j < channel_places = let s : length row ≡ channel_places = t.size in omega arith in t.flags j below ∙ ap (λ (k : Channels). k (j / 100, j % 100)) e
+    (λ j h. let below : j < channel_places = let s : length row ≡ channel_places = t.size in omega arith in t.flags j below
+    ∙ ap (λ (k : Channels). k (j / 100, j % 100)) e
     ∙ sym (t'.flags j below))
 
 module _ (layout : Layout) (start b m : Channels) (l : Ledger) (s : Shows layout start b m l) (c : Channel) (i : IsInChannelRange c)
@@ -331,7 +332,8 @@ module _ (layout : Layout) (start b m : Channels) (l : Ledger) (s : Shows layout
       or_second true d h = refl
       or_second false d h = h
 
-pub shows_start : (layout : Layout) (closed : List Channel) (found groups : List Bool) → length found ≡ channel_places → length groups ≡ 256 → ChannelMarks closed found
+pub shows_start : (layout : Layout) (closed : List Channel) (found groups : List Bool) → length found ≡ channel_places → length groups ≡ 256
+    → ChannelMarks closed found
     → GroupMarks layout closed groups
     → Shows layout (is_among closed) (is_among closed) none (record { found = found; mine = replicate channel_places false; groups = groups })
 shows_start layout closed found groups s k f g = record {

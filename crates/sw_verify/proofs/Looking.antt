@@ -59,7 +59,8 @@ module _ (layout : Layout) (closed : List Channel) (steps : List Step) (i : ℕ)
     stops = stops_by (step.Wait name) e;
   }
 
-  pub after_timer : (name : LayerName) (micros : ℕ) → drop i steps ≡ step.Timer name micros ∷ drop (i + 1) steps → Progress layout closed steps (i + 1) ledger rows
+  pub after_timer : (name : LayerName) (micros : ℕ) → drop i steps ≡ step.Timer name micros ∷ drop (i + 1) steps
+      → Progress layout closed steps (i + 1) ledger rows
   after_timer name micros e = record {
     b = p.b;
     m = p.m;
@@ -163,7 +164,8 @@ module _ (layout : Layout) (closed : List Channel) (steps : List Step) (i : ℕ)
             let w = row_tells_one (is_among closed) p.b s.0 p.m s.1 ledger.mine row p.shows.mine h.0 same in
             record { b = p.b; m = p.m; ss = ss; shows = p.shows; saved = h.1; right = λ x. f (w.0, w.1, x); stops = λ r x. g r (inr (w.0, w.1, x)) }
 
-  pub halt_right : drop i steps ≡ step.Halt ∷ drop (i + 1) steps → ledger.mine ≡ replicate channel_places false → StepsRight layout steps (is_among closed) none []
+  pub halt_right : drop i steps ≡ step.Halt ∷ drop (i + 1) steps → ledger.mine ≡ replicate channel_places false
+      → StepsRight layout steps (is_among closed) none []
   halt_right e clear =
       right_by step.Halt e (row_tells_one (is_among closed) p.b (is_among closed) p.m none ledger.mine (replicate channel_places false) p.shows.mine
       (tells_none (is_among closed)) clear).1
@@ -173,7 +175,8 @@ module _ (layout : Layout) (closed : List Channel) (steps : List Step) (i : ℕ)
   halt_stops e left =
       stops_by step.Halt e LeftClosed (
         λ w.
-            left (one_row (is_among closed) p.b (is_among closed) p.m none ledger.mine (replicate channel_places false) p.shows.mine (tells_none (is_among closed)) w),
+            left (one_row (is_among closed) p.b (is_among closed) p.m none ledger.mine (replicate channel_places false) p.shows.mine
+            (tells_none (is_among closed)) w),
         refl,
       )
 

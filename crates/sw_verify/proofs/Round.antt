@@ -125,7 +125,8 @@ moments_awaits b [] (suc i) = refl
 moments_awaits b (w ∷ ws) zero = refl
 moments_awaits b (w ∷ ws) (suc i) = moments_awaits b ws i
 
-moments_visit : (Of : Position → Type 0) (b : Channels) (c : Position) → Of c → ((x : Channel) → is_among c x ≡ true → b x ≡ false) → (i : ℕ) → AtMostOneMore Of b (effect b (take i (visit c)))
+moments_visit : (Of : Position → Type 0) (b : Channels) (c : Position) → Of c → ((x : Channel) → is_among c x ≡ true → b x ≡ false) → (i : ℕ)
+    → AtMostOneMore Of b (effect b (take i (visit c)))
 moments_visit Of b c of h zero = inl (λ x. refl)
 moments_visit Of b c of h (suc zero) = inr (c, of, λ x. refl)
 moments_visit Of b c of h (suc (suc zero)) = inr (c, of, λ x. refl)
@@ -237,7 +238,8 @@ module _ (layout : Layout) (b : Channels) (Of : Position → Type 0) where
       round-like (map Awaits (head_of arm.0 arm.1) ++ inside) (λ (w : Unit {0} × P). w.1) (λ (h : P). (tt, h))
       (round-append (map Awaits (head_of arm.0 arm.1)) inside (round-awaits (head_of arm.0 arm.1)) r)
 
-  pub round-arms : (arms : List NamedLayer) (inside : List Item) {P : Type 0} → IsRound layout b Of P inside → IsRound layout b Of (AreCounted arms → P) (turns_of arms inside)
+  pub round-arms : (arms : List NamedLayer) (inside : List Item) {P : Type 0} → IsRound layout b Of P inside
+      → IsRound layout b Of (AreCounted arms → P) (turns_of arms inside)
   round-arms [] inside {P = P} r = round-like inside (λ (h : P). λ (c : Unit {0}). h) (λ (f : Unit {0} → P). f tt) r
   round-arms (arm ∷ arms) inside {P = P} r =
       round-like (turns_of (arm ∷ arms) inside)

@@ -1,5 +1,6 @@
 -- Rows of flags as bits, one for each channel's place.
-use Rattle.std.specs.Prelude.{◌≡◌, ℕ, ◌/◌, ◌%◌, ◌^◌, ◌<◌, ◌≤◌, ◌+◌, ◌⊎◌, ◌==◌, Bool, false, List, length, slice_index_or, map, count_by}
+use Rattle.std.specs.Prelude.{◌≡◌, ℕ, ◌/◌, ◌%◌, ◌^◌, ◌<◌, ◌≤◌, ◌+◌, ◌⊎◌, ◌==◌, Bool, false, List, length}
+use Rattle.std.specs.Prelude.{slice_index_or, map, count_by}
 use Rattle.std.specs.Int.{bit_at}
 use Rattle.std.specs.List.{range_with_len}
 use Rattle.sw_base.specs.Limits.{channel_places}

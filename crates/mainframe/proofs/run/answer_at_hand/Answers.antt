@@ -61,7 +61,8 @@ returns-in-Err-gather-clause-err g c turns =
     let some : 0 < c.look-length.result = omega (arith, c.if-length-eq0.false) in
     let shows = c.look-length.ensures.line some in
     let taken = shown-taken (g.S.LineSource.remaining c.loop-at_hand.source) (g.S.LineSource.remaining c.look-length.new.self)
-    (g.S.LineSource.remaining c.take.new.self) c.look-length.result c.look-length.new.line.items (g.S.LineSource.shows c.look-length.new.self c.look-length.result)
+    (g.S.LineSource.remaining c.take.new.self) c.look-length.result c.look-length.new.line.items
+    (g.S.LineSource.shows c.look-length.new.self c.look-length.result)
     shows c.look-length.ensures.keeps c.look-length.ensures.shown c.take.ensures.taken in
     let rested : c.rest.result ≡ true = search rules in
     let answered = line_rested c.loop-at_hand.invariant.sid c.deref.ensures.value c.message-told.ensures.talked c.rest.ensures.rests rested in
@@ -92,7 +93,8 @@ loop-at_hand-preserved g c =
     let some : 0 < c.look-length.result = omega (arith, c.if-length-eq0.false) in
     let shows = c.look-length.ensures.line some in
     let taken = shown-taken (g.S.LineSource.remaining c.loop-at_hand.source) (g.S.LineSource.remaining c.look-length.new.self)
-    (g.S.LineSource.remaining c.take.new.self) c.look-length.result c.look-length.new.line.items (g.S.LineSource.shows c.look-length.new.self c.look-length.result)
+    (g.S.LineSource.remaining c.take.new.self) c.look-length.result c.look-length.new.line.items
+    (g.S.LineSource.shows c.look-length.new.self c.look-length.result)
     shows c.look-length.ensures.keeps c.look-length.ensures.shown c.take.ensures.taken in
     let rested : c.rest.result ≡ true = search rules in
     let answered = line_rested c.loop-at_hand.invariant.sid c.deref.ensures.value c.message-told.ensures.talked c.rest.ensures.rests rested in

@@ -7,7 +7,8 @@ use Rattle.sw_channel.proofs.collect.collect.Given as goal
 
 abbrev pub invariant-list : goal.invariant-list
 invariant-list l = record {
-  onward : (is : List ListItem) → IsItems l.text is → (js : List ListItem) × IsItems l.rest js × LeadsTo channels_judged l.found js (judged channels_judged [] is);
+  onward : (is : List ListItem) → IsItems l.text is → (js : List ListItem) × IsItems l.rest js
+      × LeadsTo channels_judged l.found js (judged channels_judged [] is);
   back : (js : List ListItem) → IsItems l.rest js → (is : List ListItem) × IsItems l.text is;
   within : ForOk l.found (λ f. f.count ≤ 512);
 }

@@ -8,7 +8,8 @@ use Rattle.sw_channel.proofs.positions.collect_positions.Given as goal
 
 abbrev pub invariant-list : goal.invariant-list
 invariant-list l = record {
-  onward : (is : List PositionItem) → IsPositionItems l.text is → (js : List PositionItem) × IsPositionItems l.rest js × LeadsTo positions_judged l.found js (judged positions_judged [] is);
+  onward : (is : List PositionItem) → IsPositionItems l.text is → (js : List PositionItem) × IsPositionItems l.rest js
+      × LeadsTo positions_judged l.found js (judged positions_judged [] is);
   back : (js : List PositionItem) → IsPositionItems l.rest js → (is : List PositionItem) × IsPositionItems l.text is;
   within : ForOk l.found (λ f. f.count ≤ 512);
 }

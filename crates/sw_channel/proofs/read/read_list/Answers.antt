@@ -16,4 +16,5 @@ pub returns-clause-judged : goal.returns-clause-judged
 returns-clause-judged c = judged_by channel_list channels_settled _ _ _ c.read.ensures
 
 pub returns-clause-malformed : goal.returns-clause-malformed
-returns-clause-malformed c = (malformed_by channel_list channels_settled _ _ _ c.read.ensures, λ h. refused_by channel_list channels_settled _ _ _ c.read.ensures _ (inl (h, refl)))
+returns-clause-malformed c =
+    (malformed_by channel_list channels_settled _ _ _ c.read.ensures, λ h. refused_by channel_list channels_settled _ _ _ c.read.ensures _ (inl (h, refl)))

@@ -3,9 +3,11 @@ use Rattle.std.proofs.lemmas.Bool.{both_ways}
 use Rattle.sw_base.specs.declared.terms.LayerName.{LayerName}
 use Rattle.sw_code.specs.declared.code.Step.TheVariants as step
 use Rattle.sw_trigger.proofs.Awaiting.{listed_from_test}
-use Rattle.sw_verify.proofs.Looking.{next_step, popped, after_wait, after_timer, after_pause, after_read, after_set, after_close, close_stops, after_open, open_stops, moved}
+use Rattle.sw_verify.proofs.Looking.{next_step, popped, after_wait, after_timer, after_pause, after_read, after_set, after_close, close_stops, after_open}
+use Rattle.sw_verify.proofs.Looking.{open_stops, moved}
 use Rattle.sw_verify.proofs.Looking.{loop_stops, after_loop, halt_right, halt_stops}
-use Rattle.sw_verify.proofs.look.look.Goals.{in-Set+in_ok-keep-in-Set+in_ok-insert-in-Set, in-Loop+else-is_empty+else-not-is_as, in-Close+in_default, in-Open+in_default-open}
+use Rattle.sw_verify.proofs.look.look.Goals.{in-Set+in_ok-keep-in-Set+in_ok-insert-in-Set, in-Loop+else-is_empty+else-not-is_as, in-Close+in_default}
+use Rattle.sw_verify.proofs.look.look.Goals.{in-Open+in_default-open}
 use Rattle.sw_verify.proofs.look.look.Goals.{in-Wait}
 use Rattle.sw_verify.proofs.look.look.Goals as goal
 
@@ -65,7 +67,8 @@ loop-i-preserved c =
     let now = c.match-steps-i.ledger in
     let left = c.match-steps-i.saved.items in
     elim c.match-steps-i.branch [
-      | in-Set+in_ok-keep-in-Set+in_ok-insert-in-Set w ↦ moved layout closed steps (i + 1) ledger now (w.in_ok-keep-in-Set.field-0 ∷ rows) left w.ledger-is (ap (λ v. v.items) w.saved-is
+      | in-Set+in_ok-keep-in-Set+in_ok-insert-in-Set w ↦
+          moved layout closed steps (i + 1) ledger now (w.in_ok-keep-in-Set.field-0 ∷ rows) left w.ledger-is (ap (λ v. v.items) w.saved-is
           ∙ w.in_ok-insert-in-Set.ensures.items)
           (after_set layout closed steps i ledger rows p w.in-Set.field-0 w.in-Set.field-1 w.in_ok-keep-in-Set.field-0 w.in_ok-keep-in-Set.ensures
           (next_step steps i (step.Set w.in-Set.field-0 w.in-Set.field-1) _ c.loop-i-test.true w.in-Set.is))

@@ -26,6 +26,7 @@ returns-then-ne c =
       λ t. absurd (cc t),
       λ e. absurd (elim c.then-ne.branch [
         | then-ne-via-then-ne w ↦ layers_other c.ne.result a.arms b.arms c.ne.ensures w.if-ne.true (ap (λ (v : SettingsSeen). v.arms) (same e))
-        | then-ne-via-else-ne+then-ne-2 w ↦ layer_other w.ne-else-ne.result a.trigger b.trigger w.ne-else-ne.ensures w.if-ne-2.true (ap (λ (v : SettingsSeen). v.trigger) (same e))
+        | then-ne-via-else-ne+then-ne-2 w ↦
+            layer_other w.ne-else-ne.result a.trigger b.trigger w.ne-else-ne.ensures w.if-ne-2.true (ap (λ (v : SettingsSeen). v.trigger) (same e))
       ]),
     )

@@ -33,4 +33,5 @@ returns-clause-closed c = λ start b m s.
     let layout = c.args.layout.now in
     let p = c.args.position.now in
     let end = none_left p c.loop-c.c-index (omega (arith, c.loop-c-test.false, ap length c.as_slice-c-items.ensures.chans)) in
-    closing_over layout start b m p c.loop-c.self (subst (λ (rest : Position). Closing layout start b m p rest c.loop-c.self) end (c.loop-c.invariant start b m s))
+    closing_over layout start b m p c.loop-c.self
+    (subst (λ (rest : Position). Closing layout start b m p rest c.loop-c.self) end (c.loop-c.invariant start b m s))

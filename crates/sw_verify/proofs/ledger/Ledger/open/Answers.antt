@@ -36,4 +36,5 @@ returns-clause-opened c = λ start b m s.
     let layout = c.args.layout.now in
     let p = c.args.position.now in
     let end = none_left p c.loop-c.c-index (omega (arith, c.loop-c-test.false, ap length c.as_slice-c-items.ensures.chans)) in
-    opening_over layout start b m p c.loop-c.self (subst (λ (rest : Position). Opening layout start b m p rest c.loop-c.self) end (c.loop-c.invariant start b m s))
+    opening_over layout start b m p c.loop-c.self
+    (subst (λ (rest : Position). Opening layout start b m p rest c.loop-c.self) end (c.loop-c.invariant start b m s))

@@ -28,7 +28,8 @@ invariant_of-result c =
 pub returns-clause-course : goal.returns-clause-course
 returns-clause-course c =
     let p = c.self.inside.snapshot in
-    planned_course c.into_inner.result.code p.settings c.new.result c.points.result (ap (λ (v : Judged). v.code) c.into_inner.ensures ∙ c.self.invariant.code) c.self.invariant.ready.listed
+    planned_course c.into_inner.result.code p.settings c.new.result c.points.result
+    (ap (λ (v : Judged). v.code) c.into_inner.ensures ∙ c.self.invariant.code) c.self.invariant.ready.listed
     (c.new.ensures ∙ ap (λ (x : Snapshot). sources_of x.settings) c.get.ensures)
     (c.points.ensures.points ∙ ap (λ (x : Snapshot). x.settings.points) c.get.ensures)
     ∙ ap (λ (x : Snapshot). course_of x.settings) c.self.view_is
