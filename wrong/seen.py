@@ -4,7 +4,7 @@ A function is proved against the contracts of others, never against their bodies
 crate sees the definitions, the statements of lemmas, the types with their traits, the constants, and the functions with
 their contracts and without their bodies, that its texts name, or that one of these names, and so on. What a word stands
 for is told by the `use` that brings it. Of a type that is seen, a method is seen where a source of the crate has its
-name, and every trait that it has. Comments don't count.
+name, and every trait that it has. Comments and layout don't count.
 """
 import os
 import re
@@ -27,7 +27,7 @@ class Item:
     """What may be seen of a file: its names and its text; of a method its type, and of a function whether it is public."""
 
     def __init__(self, file, names, text, owner=None, is_called=False, is_public=True):
-        self.file, self.names, self.text, self.owner = file, names, text, owner
+        self.file, self.names, self.text, self.owner = file, names, " ".join(text.split()), owner
         self.crate, self.words, self.is_called, self.is_public = file.split("/")[0], words_of(text), is_called, is_public
 
 
