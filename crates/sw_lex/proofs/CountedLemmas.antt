@@ -17,9 +17,9 @@ use Rattle.sw_lex.specs.declared.rows.Group.{Group}
 use Rattle.sw_lex.specs.Table.{entries}
 use Rattle.sw_lex.specs.Words.{short_of, long_of}
 use Rattle.sw_lex.specs.Found.{IsForm, IsNumbered, Fits, IsFound}
-use Rattle.sw_lex.specs.Rows.{nodes_at, row_steps, entries_of, MatchesRow, Matches}
+use Rattle.sw_lex.specs.Rows.{nodes_at, row_nodes, entries_of, MatchesRow, Matches}
 use Rattle.sw_lex.specs.Parts.{part_of, belongs}
-use Rattle.sw_lex.specs.Packed.{is_byte, is_number, is_packed, step_packed, steps_packed, rows_packed, groups_packed, packed, IsNumberOf, AreNumbersOf}
+use Rattle.sw_lex.specs.Packed.{is_byte, is_number, is_packed, node_packed, nodes_packed, rows_packed, groups_packed, packed, IsNumberOf, AreNumbersOf}
 use Rattle.sw_lex.specs.Packed.{IsFormNumber, IsNumberedForm, FitNumbers, RowNumbers, GroupNumbers}
 use Rattle.sw_lex.proofs.PackedLemmas.{HasNumber, number_so, number_yes, digit_behind, split_number, joined_number}
 use Rattle.sw_lex.specs.Headed.{first_word}
@@ -87,76 +87,76 @@ numbered_so form w n k h i f =
 
 -- ---- the nodes of one row
 
-step_on : (step : HeaderNode) (steps : List HeaderNode) → steps_packed (step ∷ steps) ≡ true → (step_packed step ≡ true) × (steps_packed steps ≡ true)
-step_on step steps h = and_parts (step_packed step) (steps_packed steps) h
+node_on : (node : HeaderNode) (nodes : List HeaderNode) → nodes_packed (node ∷ nodes) ≡ true → (node_packed node ≡ true) × (nodes_packed nodes ≡ true)
+node_on node nodes h = and_parts (node_packed node) (nodes_packed nodes) h
 
-fit_yes : (steps : List HeaderNode) (ws : List (List ℕ)) (ns : List ℕ) (k : ℕ) → steps_packed steps ≡ true → AreNumbersOf ws ns → FitNumbers steps ns k
-    → Fits (nodes_at steps) ws k
+fit_yes : (nodes : List HeaderNode) (ws : List (List ℕ)) (ns : List ℕ) (k : ℕ) → nodes_packed nodes ≡ true → AreNumbersOf ws ns → FitNumbers nodes ns k
+    → Fits (nodes_at nodes) ws k
 fit_yes [] [] [] k h i f = (refl, f.1)
 fit_yes [] (w ∷ ws) [] k h i f = absurd i
 fit_yes [] [] (n ∷ ns) k h i f = absurd i
 fit_yes [] (w ∷ ws) (n ∷ ns) k h i f = absurd (let e : n ∷ ns ≡ [] = f.0 in cc)
-fit_yes (Must form ∷ steps) [] [] k h i f = f
-fit_yes (Must form ∷ steps) (w ∷ ws) [] k h i f = absurd i
-fit_yes (Must form ∷ steps) [] (n ∷ ns) k h i f = absurd i
-fit_yes (Must form ∷ steps) (w ∷ ws) (n ∷ ns) k h i f =
-    let p = step_on (Must form) steps h in
-    (form_yes form w n (form_has 12 form p.0) i.0 f.0, fit_yes steps ws ns k p.1 i.1 f.1)
-fit_yes (May form ∷ steps) [] [] k h i f = fit_yes steps [] [] k (step_on (May form) steps h).1 i f
-fit_yes (May form ∷ steps) (w ∷ ws) [] k h i f = absurd i
-fit_yes (May form ∷ steps) [] (n ∷ ns) k h i f = absurd i
-fit_yes (May form ∷ steps) (w ∷ ws) (n ∷ ns) k h i f =
-    let p = step_on (May form) steps h in
+fit_yes (Must form ∷ nodes) [] [] k h i f = f
+fit_yes (Must form ∷ nodes) (w ∷ ws) [] k h i f = absurd i
+fit_yes (Must form ∷ nodes) [] (n ∷ ns) k h i f = absurd i
+fit_yes (Must form ∷ nodes) (w ∷ ws) (n ∷ ns) k h i f =
+    let p = node_on (Must form) nodes h in
+    (form_yes form w n (form_has 12 form p.0) i.0 f.0, fit_yes nodes ws ns k p.1 i.1 f.1)
+fit_yes (May form ∷ nodes) [] [] k h i f = fit_yes nodes [] [] k (node_on (May form) nodes h).1 i f
+fit_yes (May form ∷ nodes) (w ∷ ws) [] k h i f = absurd i
+fit_yes (May form ∷ nodes) [] (n ∷ ns) k h i f = absurd i
+fit_yes (May form ∷ nodes) (w ∷ ws) (n ∷ ns) k h i f =
+    let p = node_on (May form) nodes h in
     elim f [
-      | inl a ↦ inl (form_yes form w n (form_has 12 form p.0) i.0 a.0, fit_yes steps ws ns k p.1 i.1 a.1)
-      | inr a ↦ inr (fit_yes steps (w ∷ ws) (n ∷ ns) k p.1 i a)
+      | inl a ↦ inl (form_yes form w n (form_has 12 form p.0) i.0 a.0, fit_yes nodes ws ns k p.1 i.1 a.1)
+      | inr a ↦ inr (fit_yes nodes (w ∷ ws) (n ∷ ns) k p.1 i a)
     ]
-fit_yes (Numbered form ∷ steps) [] [] k h i f = fit_yes steps [] [] k (step_on (Numbered form) steps h).1 i f
-fit_yes (Numbered form ∷ steps) (w ∷ ws) [] k h i f = absurd i
-fit_yes (Numbered form ∷ steps) [] (n ∷ ns) k h i f = absurd i
-fit_yes (Numbered form ∷ steps) (w ∷ ws) (n ∷ ns) k h i f =
-    let p = step_on (Numbered form) steps h in
+fit_yes (Numbered form ∷ nodes) [] [] k h i f = fit_yes nodes [] [] k (node_on (Numbered form) nodes h).1 i f
+fit_yes (Numbered form ∷ nodes) (w ∷ ws) [] k h i f = absurd i
+fit_yes (Numbered form ∷ nodes) [] (n ∷ ns) k h i f = absurd i
+fit_yes (Numbered form ∷ nodes) (w ∷ ws) (n ∷ ns) k h i f =
+    let p = node_on (Numbered form) nodes h in
     let b = form_has 11 form p.0 in
     elim f [
-      | inl a ↦ inl (form_yes form w n (both_looser form b) i.0 a.0, fit_yes steps ws ns k p.1 i.1 a.1)
+      | inl a ↦ inl (form_yes form w n (both_looser form b) i.0 a.0, fit_yes nodes ws ns k p.1 i.1 a.1)
       | inr a ↦ elim a [
-        | inl c ↦ inr (inl (c.0, fit_yes steps ws ns c.0 p.1 i.1 c.1, numbered_yes form w n k b i.0 c.2))
-        | inr c ↦ inr (inr (fit_yes steps (w ∷ ws) (n ∷ ns) k p.1 i c))
+        | inl c ↦ inr (inl (c.0, fit_yes nodes ws ns c.0 p.1 i.1 c.1, numbered_yes form w n k b i.0 c.2))
+        | inr c ↦ inr (inr (fit_yes nodes (w ∷ ws) (n ∷ ns) k p.1 i c))
       ]
     ]
 
-fit_so : (steps : List HeaderNode) (ws : List (List ℕ)) (ns : List ℕ) (k : ℕ) → steps_packed steps ≡ true → AreNumbersOf ws ns → Fits (nodes_at steps) ws k
-    → FitNumbers steps ns k
+fit_so : (nodes : List HeaderNode) (ws : List (List ℕ)) (ns : List ℕ) (k : ℕ) → nodes_packed nodes ≡ true → AreNumbersOf ws ns → Fits (nodes_at nodes) ws k
+    → FitNumbers nodes ns k
 fit_so [] [] [] k h i f = (refl, f.1)
 fit_so [] (w ∷ ws) [] k h i f = absurd i
 fit_so [] [] (n ∷ ns) k h i f = absurd i
 fit_so [] (w ∷ ws) (n ∷ ns) k h i f = absurd (let e : w ∷ ws ≡ [] = f.0 in cc)
-fit_so (Must form ∷ steps) [] [] k h i f = f
-fit_so (Must form ∷ steps) (w ∷ ws) [] k h i f = absurd i
-fit_so (Must form ∷ steps) [] (n ∷ ns) k h i f = absurd i
-fit_so (Must form ∷ steps) (w ∷ ws) (n ∷ ns) k h i f =
-    let p = step_on (Must form) steps h in
-    (form_so form w n (form_has 12 form p.0) i.0 f.0, fit_so steps ws ns k p.1 i.1 f.1)
-fit_so (May form ∷ steps) [] [] k h i f = fit_so steps [] [] k (step_on (May form) steps h).1 i f
-fit_so (May form ∷ steps) (w ∷ ws) [] k h i f = absurd i
-fit_so (May form ∷ steps) [] (n ∷ ns) k h i f = absurd i
-fit_so (May form ∷ steps) (w ∷ ws) (n ∷ ns) k h i f =
-    let p = step_on (May form) steps h in
+fit_so (Must form ∷ nodes) [] [] k h i f = f
+fit_so (Must form ∷ nodes) (w ∷ ws) [] k h i f = absurd i
+fit_so (Must form ∷ nodes) [] (n ∷ ns) k h i f = absurd i
+fit_so (Must form ∷ nodes) (w ∷ ws) (n ∷ ns) k h i f =
+    let p = node_on (Must form) nodes h in
+    (form_so form w n (form_has 12 form p.0) i.0 f.0, fit_so nodes ws ns k p.1 i.1 f.1)
+fit_so (May form ∷ nodes) [] [] k h i f = fit_so nodes [] [] k (node_on (May form) nodes h).1 i f
+fit_so (May form ∷ nodes) (w ∷ ws) [] k h i f = absurd i
+fit_so (May form ∷ nodes) [] (n ∷ ns) k h i f = absurd i
+fit_so (May form ∷ nodes) (w ∷ ws) (n ∷ ns) k h i f =
+    let p = node_on (May form) nodes h in
     elim f [
-      | inl a ↦ inl (form_so form w n (form_has 12 form p.0) i.0 a.0, fit_so steps ws ns k p.1 i.1 a.1)
-      | inr a ↦ inr (fit_so steps (w ∷ ws) (n ∷ ns) k p.1 i a)
+      | inl a ↦ inl (form_so form w n (form_has 12 form p.0) i.0 a.0, fit_so nodes ws ns k p.1 i.1 a.1)
+      | inr a ↦ inr (fit_so nodes (w ∷ ws) (n ∷ ns) k p.1 i a)
     ]
-fit_so (Numbered form ∷ steps) [] [] k h i f = fit_so steps [] [] k (step_on (Numbered form) steps h).1 i f
-fit_so (Numbered form ∷ steps) (w ∷ ws) [] k h i f = absurd i
-fit_so (Numbered form ∷ steps) [] (n ∷ ns) k h i f = absurd i
-fit_so (Numbered form ∷ steps) (w ∷ ws) (n ∷ ns) k h i f =
-    let p = step_on (Numbered form) steps h in
+fit_so (Numbered form ∷ nodes) [] [] k h i f = fit_so nodes [] [] k (node_on (Numbered form) nodes h).1 i f
+fit_so (Numbered form ∷ nodes) (w ∷ ws) [] k h i f = absurd i
+fit_so (Numbered form ∷ nodes) [] (n ∷ ns) k h i f = absurd i
+fit_so (Numbered form ∷ nodes) (w ∷ ws) (n ∷ ns) k h i f =
+    let p = node_on (Numbered form) nodes h in
     let b = form_has 11 form p.0 in
     elim f [
-      | inl a ↦ inl (form_so form w n (both_looser form b) i.0 a.0, fit_so steps ws ns k p.1 i.1 a.1)
+      | inl a ↦ inl (form_so form w n (both_looser form b) i.0 a.0, fit_so nodes ws ns k p.1 i.1 a.1)
       | inr a ↦ elim a [
-        | inl c ↦ inr (inl (c.0, fit_so steps ws ns c.0 p.1 i.1 c.1, numbered_so form w n k b i.0 c.2))
-        | inr c ↦ inr (inr (fit_so steps (w ∷ ws) (n ∷ ns) k p.1 i c))
+        | inl c ↦ inr (inl (c.0, fit_so nodes ws ns c.0 p.1 i.1 c.1, numbered_so form w n k b i.0 c.2))
+        | inr c ↦ inr (inr (fit_so nodes (w ∷ ws) (n ∷ ns) k p.1 i c))
       ]
     ]
 
@@ -166,9 +166,9 @@ row_yes : (rows : List Row) (ws : List (List ℕ)) (ns : List ℕ) (query : Bool
     → RowNumbers rows ns query key k → MatchesRow rows ws query key k
 row_yes [] ws ns query key k h i m = absurd m
 row_yes (row ∷ rows) ws ns query key k h i m =
-    let p = and_parts (steps_packed (row_steps row)) (rows_packed rows) h in
+    let p = and_parts (nodes_packed (row_nodes row)) (rows_packed rows) h in
     elim m [
-      | inl a ↦ inl (a.0, a.1, fit_yes (row_steps row) ws ns k p.0 i a.2)
+      | inl a ↦ inl (a.0, a.1, fit_yes (row_nodes row) ws ns k p.0 i a.2)
       | inr b ↦ inr (row_yes rows ws ns query key k p.1 i b)
     ]
 
@@ -176,9 +176,9 @@ row_so : (rows : List Row) (ws : List (List ℕ)) (ns : List ℕ) (query : Bool)
     → MatchesRow rows ws query key k → RowNumbers rows ns query key k
 row_so [] ws ns query key k h i m = absurd m
 row_so (row ∷ rows) ws ns query key k h i m =
-    let p = and_parts (steps_packed (row_steps row)) (rows_packed rows) h in
+    let p = and_parts (nodes_packed (row_nodes row)) (rows_packed rows) h in
     elim m [
-      | inl a ↦ inl (a.0, a.1, fit_so (row_steps row) ws ns k p.0 i a.2)
+      | inl a ↦ inl (a.0, a.1, fit_so (row_nodes row) ws ns k p.0 i a.2)
       | inr b ↦ inr (row_so rows ws ns query key k p.1 i b)
     ]
 

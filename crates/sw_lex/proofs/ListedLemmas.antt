@@ -4,7 +4,7 @@ use Rattle.sw_lex.specs.declared.table.Key.{Key}
 use Rattle.sw_lex.specs.declared.rows.Row.{Row}
 use Rattle.sw_lex.specs.declared.rows.Group.{Group}
 use Rattle.sw_lex.specs.Table.{Node, must, HeaderEntry}
-use Rattle.sw_lex.specs.Rows.{nodes_at, row_steps, entry_at, entries_of, MatchesRow, Matches}
+use Rattle.sw_lex.specs.Rows.{nodes_at, row_nodes, entry_at, entries_of, MatchesRow, Matches}
 use Rattle.sw_lex.specs.Found.{IsIn, IsForm, Fits, IsFound}
 use Rattle.sw_lex.proofs.SpelledLemmas.{in_left, in_right, in_cases, fits_listed, listed_fits}
 
@@ -20,7 +20,7 @@ row_found first w (row ∷ rows) ws query key k i m =
         listed = inl refl;
         query_is = a.0;
         key_is = a.1;
-        spelled = fits_listed (must first ∷ nodes_at (row_steps row)) (w ∷ ws) k (i, a.2);
+        spelled = fits_listed (must first ∷ nodes_at (row_nodes row)) (w ∷ ws) k (i, a.2);
       }
       | inr b ↦
           let f = row_found first w rows ws query key k i b in
@@ -33,7 +33,7 @@ at_row first w [] e ws k h f = absurd h
 at_row first w (row ∷ rows) e ws k h f =
     elim h [
       | inl i ↦
-          let n : e.nodes ≡ must first ∷ nodes_at (row_steps row) = ap (λ (d : HeaderEntry). d.nodes) i in
+          let n : e.nodes ≡ must first ∷ nodes_at (row_nodes row) = ap (λ (d : HeaderEntry). d.nodes) i in
           let t = subst (λ (ns : List Node). Fits ns (w ∷ ws) k) n f in
           (t.0, inl (sym (ap (λ (d : HeaderEntry). d.query) i), sym (ap (λ (d : HeaderEntry). d.key) i), t.1))
       | inr r ↦ let t = at_row first w rows e ws k r f in (t.0, inr t.1)

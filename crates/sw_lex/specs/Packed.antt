@@ -12,7 +12,7 @@ use Rattle.sw_lex.specs.declared.rows.HeaderNode.TheVariants.{Must, May, Numbere
 use Rattle.sw_lex.specs.declared.rows.Row.{Row}
 use Rattle.sw_lex.specs.declared.rows.Group.{Group}
 use Rattle.sw_lex.specs.Words.{short_of, long_of}
-use Rattle.sw_lex.specs.Rows.{is_query_row, row_steps, key_of_row}
+use Rattle.sw_lex.specs.Rows.{is_query_row, row_nodes, key_of_row}
 
 -- ---- words
 
@@ -73,16 +73,16 @@ is_packed most form = is_number most form.short (short_of form.text.now) && is_n
     (long_of form.text.now)
 
 -- one byte is left for the number of a layer
-abbrev pub step_packed : HeaderNode → Bool
-step_packed (Must form) = is_packed longest_mnemonic form
-step_packed (May form) = is_packed longest_mnemonic form
-step_packed (Numbered form) = is_packed (longest_mnemonic - 1) form
+abbrev pub node_packed : HeaderNode → Bool
+node_packed (Must form) = is_packed longest_mnemonic form
+node_packed (May form) = is_packed longest_mnemonic form
+node_packed (Numbered form) = is_packed (longest_mnemonic - 1) form
 
-abbrev pub steps_packed : List HeaderNode → Bool
-steps_packed steps = list_all step_packed steps
+abbrev pub nodes_packed : List HeaderNode → Bool
+nodes_packed nodes = list_all node_packed nodes
 
 abbrev pub rows_packed : List Row → Bool
-rows_packed rows = list_all (λ row. steps_packed (row_steps row)) rows
+rows_packed rows = list_all (λ row. nodes_packed (row_nodes row)) rows
 
 abbrev pub groups_packed : List Group → Bool
 groups_packed groups = list_all (λ group. is_packed longest_mnemonic group.first && rows_packed group.rows.now) groups
@@ -98,18 +98,18 @@ IsNumberedForm form k n = (1 ≤ k) × (k ≤ most_arm_layers) × (n % 256 ≡ 4
 
 abbrev pub FitNumbers : List HeaderNode → List ℕ → ℕ → Type 0
 FitNumbers [] ns k = (ns ≡ []) × (k ≡ 0)
-FitNumbers (Must form ∷ steps) [] k = ⊥
-FitNumbers (Must form ∷ steps) (n ∷ ns) k = IsFormNumber form n × FitNumbers steps ns k
-FitNumbers (May form ∷ steps) [] k = FitNumbers steps [] k
-FitNumbers (May form ∷ steps) (n ∷ ns) k = (IsFormNumber form n × FitNumbers steps ns k) ⊎ FitNumbers steps (n ∷ ns) k
-FitNumbers (Numbered form ∷ steps) [] k = FitNumbers steps [] k
-FitNumbers (Numbered form ∷ steps) (n ∷ ns) k = (IsFormNumber form n × FitNumbers steps ns k)
-    ⊎ (((m : ℕ) × FitNumbers steps ns m × IsNumberedForm form k n) ⊎ FitNumbers steps (n ∷ ns) k)
+FitNumbers (Must form ∷ nodes) [] k = ⊥
+FitNumbers (Must form ∷ nodes) (n ∷ ns) k = IsFormNumber form n × FitNumbers nodes ns k
+FitNumbers (May form ∷ nodes) [] k = FitNumbers nodes [] k
+FitNumbers (May form ∷ nodes) (n ∷ ns) k = (IsFormNumber form n × FitNumbers nodes ns k) ⊎ FitNumbers nodes (n ∷ ns) k
+FitNumbers (Numbered form ∷ nodes) [] k = FitNumbers nodes [] k
+FitNumbers (Numbered form ∷ nodes) (n ∷ ns) k = (IsFormNumber form n × FitNumbers nodes ns k)
+    ⊎ (((m : ℕ) × FitNumbers nodes ns m × IsNumberedForm form k n) ⊎ FitNumbers nodes (n ∷ ns) k)
 
 abbrev pub RowNumbers : List Row → List ℕ → Bool → Key → ℕ → Type 0
 RowNumbers [] ns query key k = ⊥
 RowNumbers (row ∷ rows) ns query key k =
-    ((is_query_row row ≡ query) × (key_of_row row ≡ key) × FitNumbers (row_steps row) ns k) ⊎ RowNumbers rows ns query
+    ((is_query_row row ≡ query) × (key_of_row row ≡ key) × FitNumbers (row_nodes row) ns k) ⊎ RowNumbers rows ns query
     key k
 
 abbrev pub GroupNumbers : List Group → ℕ → List ℕ → Bool → Key → ℕ → Type 0

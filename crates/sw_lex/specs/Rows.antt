@@ -18,32 +18,32 @@ is_form_from (x ∷ word) [] capitals = false
 is_form_from (x ∷ word) (b ∷ form) capitals =
     x == to_ascii_uppercase b && is_form_from word form (capitals && not (is_ascii_lowercase b))
 
--- the nodes of these steps
+-- nodes of the table, each by the text of its form
 abbrev pub nodes_at : List HeaderNode → List Node
 nodes_at [] = []
-nodes_at (Must form ∷ steps) = must form.text.now ∷ nodes_at steps
-nodes_at (May form ∷ steps) = may form.text.now ∷ nodes_at steps
-nodes_at (Numbered form ∷ steps) = numbered form.text.now ∷ nodes_at steps
+nodes_at (Must form ∷ nodes) = must form.text.now ∷ nodes_at nodes
+nodes_at (May form ∷ nodes) = may form.text.now ∷ nodes_at nodes
+nodes_at (Numbered form ∷ nodes) = numbered form.text.now ∷ nodes_at nodes
 
 -- whether a row has a question mark
 abbrev pub is_query_row : Row → Bool
-is_query_row (Command steps key) = false
-is_query_row (Query steps key) = true
+is_query_row (Command nodes key) = false
+is_query_row (Query nodes key) = true
 
 -- its nodes below the first
-abbrev pub row_steps : Row → List HeaderNode
-row_steps (Command steps key) = steps.now
-row_steps (Query steps key) = steps.now
+abbrev pub row_nodes : Row → List HeaderNode
+row_nodes (Command nodes key) = nodes.now
+row_nodes (Query nodes key) = nodes.now
 
 -- what it asks for
 abbrev pub key_of_row : Row → Key
-key_of_row (Command steps key) = key
-key_of_row (Query steps key) = key
+key_of_row (Command nodes key) = key
+key_of_row (Query nodes key) = key
 
 -- the entry of a row below this first mnemonic
 abbrev pub entry_at : List ℕ → Row → HeaderEntry
 entry_at first row = record {
-  nodes = must first ∷ nodes_at (row_steps row);
+  nodes = must first ∷ nodes_at (row_nodes row);
   query = is_query_row row;
   key =
       key_of_row row;
@@ -57,7 +57,7 @@ entries_of (group ∷ groups) = map (entry_at group.first.text.now) group.rows.n
 abbrev pub MatchesRow : List Row → List (List ℕ) → Bool → Key → ℕ → Type 0
 MatchesRow [] ws query key k = ⊥
 MatchesRow (row ∷ rows) ws query key k =
-    ((is_query_row row ≡ query) × (key_of_row row ≡ key) × Fits (nodes_at (row_steps row)) ws k)
+    ((is_query_row row ≡ query) × (key_of_row row ≡ key) × Fits (nodes_at (row_nodes row)) ws k)
     ⊎ MatchesRow rows ws query key k
 
 -- the word and those after it, in capitals, are a header of one of the groups

@@ -81,13 +81,13 @@ fn number_behind(word: Word, form: &Form) -> Option<u8>
 }
 
 /// Whether the words are a spelling of the nodes, and the number in them.
-fn spelled(steps: &[HeaderNode], words: &[Word]) -> Option<u8>
-    ensures some { IfSome result (λ k. FitNumbers steps.now words.now k) }
-    ensures none { IfNone result ((k : ℕ) → FitNumbers steps.now words.now k → ⊥) }
+fn spelled(nodes: &[HeaderNode], words: &[Word]) -> Option<u8>
+    ensures some { IfSome result (λ k. FitNumbers nodes.now words.now k) }
+    ensures none { IfNone result ((k : ℕ) → FitNumbers nodes.now words.now k → ⊥) }
 {
-    match steps {
+    match nodes {
         [] => if words.is_empty() { Some(0) } else { None },
-        [step, others @ ..] => match step {
+        [node, others @ ..] => match node {
             HeaderNode::Must(form) => match words {
                 [] => None,
                 [word, rest @ ..] => if is_spelling(*word, form) {
@@ -129,26 +129,26 @@ fn spelled(steps: &[HeaderNode], words: &[Word]) -> Option<u8>
 /// isn't.
 #[inline(always)]
 fn behind_musts<'s, 'w>(
-    steps: &'s [HeaderNode],
+    nodes: &'s [HeaderNode],
     words: &'w [Word],
 ) -> Option<(&'s [HeaderNode], &'w [Word])>
-    ensures fits { IfSome result (λ x. (k : ℕ) → FitNumbers steps.now words.now k ↔ FitNumbers x.0.now x.1.now k) }
-    ensures none { IfNone result ((k : ℕ) → FitNumbers steps.now words.now k → ⊥) }
+    ensures fits { IfSome result (λ x. (k : ℕ) → FitNumbers nodes.now words.now k ↔ FitNumbers x.0.now x.1.now k) }
+    ensures none { IfNone result ((k : ℕ) → FitNumbers nodes.now words.now k → ⊥) }
 {
-    let mut steps = steps;
+    let mut nodes = nodes;
     let mut words = words;
     'nodes: loop {
-        match steps {
-            [] => return Some((steps, words)),
-            [step, others @ ..] => match step {
+        match nodes {
+            [] => return Some((nodes, words)),
+            [node, others @ ..] => match node {
                 HeaderNode::Must(form) => match words {
                     [word, rest @ ..] if is_spelling(*word, form) => {
-                        steps = others;
+                        nodes = others;
                         words = rest;
                     }
                     _ => return None,
                 },
-                HeaderNode::May(_) | HeaderNode::Numbered(_) => return Some((steps, words)),
+                HeaderNode::May(_) | HeaderNode::Numbered(_) => return Some((nodes, words)),
             },
         }
     }
@@ -161,8 +161,8 @@ fn below(rows: &[Row], words: &[Word]) -> Option<(Key, u8)>
     ensures none { IfNone result ((query : Bool) (key : Key) (k : ℕ) → RowNumbers rows.now words.now query key k → ⊥) }
 {
     for row in rows {
-        if let Some((steps, rest)) = behind_musts(row.steps(), words) {
-            if let Some(number) = spelled(steps, rest) {
+        if let Some((nodes, rest)) = behind_musts(row.nodes(), words) {
+            if let Some(number) = spelled(nodes, rest) {
                 return Some((row.key(), number));
             }
         }

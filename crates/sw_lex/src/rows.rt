@@ -3,7 +3,7 @@
 
 ghost use Rattle.std.specs.Prelude.{◌≡◌, false};
 ghost use Rattle.std.specs.Char.{to_ascii_uppercase};
-ghost use Rattle.sw_lex.specs.Rows.{row_steps, key_of_row};
+ghost use Rattle.sw_lex.specs.Rows.{row_nodes, key_of_row};
 ghost use Rattle.sw_lex.specs.Parts.{IsPart};
 
 use crate::command::{Channels, GroupQuery, LayerQuery, Plain, PlainQuery, StatusRead, Time};
@@ -40,11 +40,11 @@ pub enum Row {
 
 impl Row {
     /// Its nodes below the first.
-    pub fn steps(&self) -> &'static [HeaderNode]
-        ensures { result.now ≡ row_steps self.now }
+    pub fn nodes(&self) -> &'static [HeaderNode]
+        ensures { result.now ≡ row_nodes self.now }
     {
         match *self {
-            Command(steps, _) | Query(steps, _) => steps,
+            Command(nodes, _) | Query(nodes, _) => nodes,
         }
     }
 

@@ -7,6 +7,7 @@ use std::marker::Model;
 use sw_base::{ARM_LAYERS, ARMS, LayerName, Source};
 use sw_trigger::Settings;
 
+/// How many layers have a source: TRIGger and the ARM layers.
 const LAYERS: usize = ARM_LAYERS as usize + 1;
 
 /// By layer, where its wait takes its trigger from.
@@ -44,12 +45,12 @@ impl Sources {
     pub fn source(&self, name: LayerName) -> Source
         ensures { result ≡ source_at self.now name }
     {
-        self.by_layer[place(name)]
+        self.by_layer[layer_number(name)]
     }
 }
 
-/// The layer's number.
-fn place(name: LayerName) -> usize
+/// The layer's number: 0 for TRIGger, and an ARM layer's own.
+fn layer_number(name: LayerName) -> usize
     ensures number { result ≡ layer_number name }
     ensures within { result < length layers }
 {

@@ -2,4 +2,4 @@ use Rattle.std.proofs.Common.{length}
 use Rattle.sw_lex.proofs.headers.+spelled.Given as goal
 
 abbrev pub decreases-spelled : goal.decreases-spelled
-decreases-spelled l = length l.steps.now
+decreases-spelled l = length l.nodes.now

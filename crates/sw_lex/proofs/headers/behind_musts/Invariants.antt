@@ -4,7 +4,7 @@ use Rattle.sw_lex.specs.Packed.{FitNumbers}
 use Rattle.sw_lex.proofs.headers.behind_musts.Given as goal
 
 abbrev pub invariant-nodes : goal.invariant-nodes
-invariant-nodes l = (k : ℕ) → FitNumbers l.fn.steps l.fn.words k ↔ FitNumbers l.steps l.words k
+invariant-nodes l = (k : ℕ) → FitNumbers l.fn.nodes l.fn.words k ↔ FitNumbers l.nodes l.words k
 
 abbrev pub decreases-nodes : goal.decreases-nodes
-decreases-nodes l = length l.steps
+decreases-nodes l = length l.nodes
