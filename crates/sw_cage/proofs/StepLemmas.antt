@@ -13,10 +13,10 @@ use Rattle.sw_code.specs.Range.{IsStep}
 use Rattle.sw_code.specs.Code.{put, passing, act, exec}
 use Rattle.sw_code.specs.Tree.{step_of}
 use Rattle.sw_code.specs.Pace.{IsNearBy, IsNear, IsNearAfter, IsPaced}
-use Rattle.sw_cage.specs.declared.scan.steps.Place.{Place}
+use Rattle.sw_cage.specs.declared.scan.steps.ScanPlace.{ScanPlace}
 use Rattle.sw_cage.specs.Steps.{counters_of, Does}
 
-abbrev pub place : ℕ → List ℕ → Place
+abbrev pub place : ℕ → List ℕ → ScanPlace
 place pc counters = record { step = pc; counters = counters }
 
 -- a step's numbers are in range
@@ -37,7 +37,7 @@ put_is cs k v h = fun_ext (λ j. at j (eqb j k) refl) where
       let other : j ≢ k = λ s. absurd (grind (arith, nat_tests)) in
       sym (get_or-set_other cs k j v 0 other)
 
-module _ (code : List Step) (at : Place) where
+module _ (code : List Step) (at : ScanPlace) where
   -- the step, and what comes then
   does_at : (items : List Item) (o : Option Step) → slice_get code at.step ≡ o → Does code at items
       → (n : ℕ) × (act o (exec code n) at.step (counters_of at.counters) ≡ Some items)
@@ -131,7 +131,7 @@ module _ (code : List Step) (at : Place) where
     go (Some step.Halt) e = halt e
 
 -- at a loop's end
-module _ (code : List Step) (at : Place) (k to : ℕ) where
+module _ (code : List Step) (at : ScanPlace) (k to : ℕ) where
   abbrev turns : ℕ
   turns = get_or at.counters k 0
 
@@ -140,26 +140,26 @@ module _ (code : List Step) (at : Place) (k to : ℕ) where
   over_or_again (suc zero) = inr (omega arith)
   over_or_again (suc (suc n)) = inl (omega arith)
 
-  pub loop_near : (n : ℕ) (after : Place) → slice_get code at.step ≡ Some (step.Loop k to) → IsNear code (suc n) at.step
+  pub loop_near : (n : ℕ) (after : ScanPlace) → slice_get code at.step ≡ Some (step.Loop k to) → IsNear code (suc n) at.step
       → (1 < turns → after ≡ place to (slice_set at.counters k (turns - 1))) → (turns ≤ 1 → after ≡ place (at.step + 1) (slice_set at.counters k 0))
       → IsNear code n after.step
   loop_near n after e near again over =
       let both = near_at code at n (Some (step.Loop k to)) e near in
       elim (over_or_again turns) [
-        | inl more ↦ subst (λ (p : Place). IsNear code n p.step) (sym (again more)) both.1
-        | inr done ↦ subst (λ (p : Place). IsNear code n p.step) (sym (over done)) both.0
+        | inl more ↦ subst (λ (p : ScanPlace). IsNear code n p.step) (sym (again more)) both.1
+        | inr done ↦ subst (λ (p : ScanPlace). IsNear code n p.step) (sym (over done)) both.0
       ]
 
-  pub loop_does : (items : List Item) (after : Place) → slice_get code at.step ≡ Some (step.Loop k to) → k < length at.counters → Does code at items
+  pub loop_does : (items : List Item) (after : ScanPlace) → slice_get code at.step ≡ Some (step.Loop k to) → k < length at.counters → Does code at items
       → (1 < turns → after ≡ place to (slice_set at.counters k (turns - 1))) → (turns ≤ 1 → after ≡ place (at.step + 1) (slice_set at.counters k 0))
       → Does code after items
   loop_does items after e h d again over = elim (over_or_again turns) [
-    | inl more ↦ subst (λ (p : Place). Does code p items) (sym (again more)) (does_again code at k to items e h more d)
-    | inr done ↦ subst (λ (p : Place). Does code p items) (sym (over done)) (does_over code at k to items e h done d)
+    | inl more ↦ subst (λ (p : ScanPlace). Does code p items) (sym (again more)) (does_again code at k to items e h more d)
+    | inr done ↦ subst (λ (p : ScanPlace). Does code p items) (sym (over done)) (does_over code at k to items e h done d)
   ]
 
 -- past a step that does an item
-module _ (code : List Step) (at : Place) where
+module _ (code : List Step) (at : ScanPlace) where
   tail_is : (x y : Item) (items rest : List Item) → (x ∷ items) ≡ (y ∷ rest) → rest ≡ items
   tail_is x y items rest e = cc
 

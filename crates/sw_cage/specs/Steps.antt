@@ -3,7 +3,7 @@ use Rattle.std.specs.Prelude.{◌≡◌, ℕ, List, [], ◌∷◌, Option, Some,
 use Rattle.sw_trigger.specs.Agenda.{Item, Awaits, Close, Open}
 use Rattle.sw_code.specs.declared.code.Step.{Step}
 use Rattle.sw_code.specs.Code.{Counters, exec}
-use Rattle.sw_cage.specs.declared.scan.steps.Place.{Place}
+use Rattle.sw_cage.specs.declared.scan.steps.ScanPlace.{ScanPlace}
 use Rattle.sw_cage.specs.declared.scan.steps.Move.{Move}
 use Rattle.sw_cage.specs.declared.scan.steps.Move.TheVariants as move
 
@@ -11,7 +11,7 @@ abbrev pub counters_of : List ℕ → Counters
 counters_of counters = λ k. slice_index_or counters k 0
 
 -- from the place on the code does these items, and then halts
-pub record Does (code : List Step) (place : Place) (items : List Item) : Type 0 where
+pub record Does (code : List Step) (place : ScanPlace) (items : List Item) : Type 0 where
   pub steps : ℕ
   pub run : exec code steps place.step (counters_of place.counters) ≡ Some items
 

@@ -13,7 +13,7 @@ use std::marker::Model;
 use sw_base::{SESSIONS, Sequence};
 
 /// A place for each session.
-const PLACES: usize = SESSIONS as usize;
+const LOCK_PLACES: usize = SESSIONS as usize;
 
 /// The most bytes of a key (IVI-6.1 HiSLIP, lock transaction).
 const LONGEST_KEY: usize = 256;
@@ -44,7 +44,7 @@ pub enum Released {
 pub struct Locks {
     exclusive: Option<u8>,
     /// The keys of the sessions, by number from 1.
-    keys: [Option<Sequence<u8>>; PLACES],
+    keys: [Option<Sequence<u8>>; LOCK_PLACES],
     /// No key is held.
     unshared: bool,
 }

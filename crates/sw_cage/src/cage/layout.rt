@@ -7,7 +7,7 @@ ghost use Rattle.sw_cage.specs.Cage.{cage_layout};
 ghost use Rattle.sw_cage.specs.Channels.{closed_list};
 
 use crate::cage::Cage;
-use crate::slots::PLACES;
+use crate::slots::SLOT_PLACES;
 use std::alloc::{AllocError, Global};
 use sw_base::{Chan, SLOTS};
 use sw_card::{Meter, Relay};
@@ -20,7 +20,7 @@ impl<R: Relay, M: Meter> Cage<R, M> {
     {
         // Reading a field tells the proof what holds of every `Cage`.
         let _ = &self.slots;
-        let mut bays = Vec::with_capacity(alloc, PLACES)?;
+        let mut bays = Vec::with_capacity(alloc, SLOT_PLACES)?;
         for before in 0..SLOTS {
             bays.push(self.contents(alloc, before + 1)?)?;
         }
@@ -56,7 +56,7 @@ impl<R: Relay, M: Meter> Cage<R, M> {
         // Reading a field tells the proof what holds of every `Cage`.
         let _ = &self.slots;
         let bays = layout.slots();
-        if bays.len() != PLACES {
+        if bays.len() != SLOT_PLACES {
             return false;
         }
         for before in 0..SLOTS {

@@ -12,7 +12,7 @@ pub(crate) mod machine;
 mod steps;
 pub(crate) mod tickets;
 
-use self::steps::{Move, Place, awaited, first, go_past, next_move};
+use self::steps::{Move, ScanPlace, awaited, first, go_past, next_move};
 use crate::job::Ticket;
 use crate::taken::Happening;
 use std::marker::Model;
@@ -29,7 +29,7 @@ pub(crate) struct Scan {
     code: Code,
     sources: Sources,
     points: u32,
-    at: Place,
+    at: ScanPlace,
     index: u64,
 }
 

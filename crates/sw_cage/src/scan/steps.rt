@@ -22,7 +22,7 @@ const MOST_COUNTING: u8 = 2 * COUNTERS;
 
 /// The number of the step that comes next, and the counters.
 #[derive(Clone, Copy, Debug, PartialEq, Eq)]
-pub(crate) struct Place {
+pub(crate) struct ScanPlace {
     pub(crate) step: usize,
     pub(crate) counters: [u32; COUNTERS as usize],
 }
@@ -36,7 +36,7 @@ pub(crate) enum Move {
 
 /// What the step awaits at which the scan stands; nothing where it moves relays, or at the end.
 #[inline(always)]
-pub(crate) fn awaited(steps: &[Step], at: &Place) -> Option<Awaited>
+pub(crate) fn awaited(steps: &[Step], at: &ScanPlace) -> Option<Awaited>
     requires near { IsNear steps.now 0 at.now.step }
     ensures { (items : List Item) → Does steps.now at.now items → result ≡ first_awaited items }
 {
@@ -51,7 +51,7 @@ pub(crate) fn awaited(steps: &[Step], at: &Place) -> Option<Awaited>
 
 /// What the step opens or closes at which the scan stands; nothing where it awaits something, or at the end.
 #[inline(always)]
-pub(crate) fn next_move(steps: &[Step], at: &Place) -> Option<Move>
+pub(crate) fn next_move(steps: &[Step], at: &ScanPlace) -> Option<Move>
     requires near { IsNear steps.now 0 at.now.step }
     ensures { (items : List Item) → Does steps.now at.now items → result ≡ next_move items }
 {
@@ -63,13 +63,13 @@ pub(crate) fn next_move(steps: &[Step], at: &Place) -> Option<Move>
 }
 
 /// The place of the first step that does more than count.
-pub(crate) fn first(steps: &[Step]) -> Place
+pub(crate) fn first(steps: &[Step]) -> ScanPlace
     requires range { AllByRecursion IsStep steps.now }
     requires paced { IsPaced steps.now most_counting }
     ensures near { IsNear steps.now 0 result.step }
     ensures does { (items : List Item) → Unfolds steps.now items → Does steps.now result items }
 {
-    let mut at = Place {
+    let mut at = ScanPlace {
         step: 0,
         counters: [0; COUNTERS as usize],
     };
@@ -79,7 +79,7 @@ pub(crate) fn first(steps: &[Step]) -> Place
 
 /// Goes past a step that does an item, on to the next that does more than count.
 #[inline(always)]
-pub(crate) fn go_past(steps: &[Step], at: &mut Place)
+pub(crate) fn go_past(steps: &[Step], at: &mut ScanPlace)
     requires range { AllByRecursion IsStep steps.now }
     requires paced { IsPaced steps.now most_counting }
     requires near { IsNear steps.now 0 at.old.step }
@@ -94,7 +94,7 @@ pub(crate) fn go_past(steps: &[Step], at: &mut Place)
 
 /// On to a step that does more than count.
 #[inline(always)]
-fn settle(steps: &[Step], at: &mut Place)
+fn settle(steps: &[Step], at: &mut ScanPlace)
     requires range { AllByRecursion IsStep steps.now }
     requires near { IsNear steps.now most_counting at.old.step }
     ensures near { IsNear steps.now 0 at.new.step }
@@ -109,7 +109,7 @@ fn settle(steps: &[Step], at: &mut Place)
 
 /// Goes past the step, if it only counts, and tells whether it does.
 #[inline(always)]
-fn has_counted(steps: &[Step], at: &mut Place) -> bool
+fn has_counted(steps: &[Step], at: &mut ScanPlace) -> bool
     requires range { AllByRecursion IsStep steps.now }
     ensures near { result ≡ true
         → (n : ℕ) → IsNear steps.now (suc n) at.old.step → IsNear steps.now n at.new.step }
@@ -132,7 +132,7 @@ fn has_counted(steps: &[Step], at: &mut Place) -> bool
 
 /// Goes past a loop's end: the counter goes down by one, and the loop begins again or is over.
 #[inline(always)]
-fn turn(at: &mut Place, counter: u8, to: u16)
+fn turn(at: &mut ScanPlace, counter: u8, to: u16)
     requires counter { counter < most_counters }
     requires within { at.old.step + 1 < 2 ^ 64 }
     ensures again { 1 < slice_index_or at.old.counters counter 0 → at.new ≡ record {
@@ -156,7 +156,7 @@ fn turn(at: &mut Place, counter: u8, to: u16)
 
 /// The step of the place's number.
 #[inline(always)]
-fn step_at<'a>(steps: &'a [Step], at: &Place) -> Option<&'a Step>
+fn step_at<'a>(steps: &'a [Step], at: &ScanPlace) -> Option<&'a Step>
     ensures step { IfSome result (λ step. slice_get steps.now at.now.step ≡ Some step.now) }
     ensures within { IfSome result (λ _. at.now.step < length steps.now) }
     ensures end { IfNone result (slice_get steps.now at.now.step ≡ None) }

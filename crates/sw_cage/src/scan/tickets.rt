@@ -5,14 +5,14 @@ ghost use Rattle.sw_base.specs.Limits.{most_slots};
 ghost use Rattle.sw_base.specs.Layout.{slot_at};
 
 use crate::job::Ticket;
-use crate::slots::PLACES;
+use crate::slots::SLOT_PLACES;
 use std::marker::Model;
 use sw_base::SLOTS;
 
 /// By slot, from 1 on, the ticket under which its meter is out.
 #[derive(Drop)]
 pub(crate) struct Tickets {
-    by_slot: [Option<Ticket>; PLACES],
+    by_slot: [Option<Ticket>; SLOT_PLACES],
 }
 
 impl Model for Tickets {
@@ -33,7 +33,7 @@ impl Tickets {
         ensures { result ≡ replicate most_slots None }
     {
         Tickets {
-            by_slot: [None; PLACES],
+            by_slot: [None; SLOT_PLACES],
         }
     }
 

@@ -7,7 +7,7 @@ ghost use Rattle.sw_base.specs.Layout.{Channel};
 ghost use Rattle.sw_cage.specs.Accounts.{accounts_of, is_closed};
 ghost use Rattle.sw_cage.specs.Claims.{Index, claim_at, closed_claim};
 
-use crate::slots::slot::{Place, closed_in};
+use crate::slots::slot::{CageSlot, closed_in};
 use std::marker::Model;
 use sw_base::Chan;
 use sw_card::{Meter, Relay};
@@ -80,7 +80,7 @@ impl Claims {
 
     /// Drops the claims of the channels that are not closed.
     #[inline(never)]
-    pub(super) fn keep_closed<R: Relay, M: Meter>(&mut self, slots: &[Place<R, M>])
+    pub(super) fn keep_closed<R: Relay, M: Meter>(&mut self, slots: &[CageSlot<R, M>])
         requires { length slots.now ≡ most_slots }
         ensures { self.new ≡ map (closed_claim (is_closed (accounts_of slots.now))) self.old }
     {
@@ -88,7 +88,7 @@ impl Claims {
     }
 }
 
-fn keep_closed_in<R: Relay, M: Meter>(claims: &mut [Option<Chan>], slots: &[Place<R, M>])
+fn keep_closed_in<R: Relay, M: Meter>(claims: &mut [Option<Chan>], slots: &[CageSlot<R, M>])
     requires { length slots.now ≡ most_slots }
     ensures { claims.new ≡ map (closed_claim (is_closed (accounts_of slots.now))) claims.old }
 {
@@ -98,7 +98,7 @@ fn keep_closed_in<R: Relay, M: Meter>(claims: &mut [Option<Chan>], slots: &[Plac
 }
 
 /// The claim, where it is of a closed channel.
-fn if_closed<R: Relay, M: Meter>(claim: Option<Chan>, slots: &[Place<R, M>]) -> Option<Chan>
+fn if_closed<R: Relay, M: Meter>(claim: Option<Chan>, slots: &[CageSlot<R, M>]) -> Option<Chan>
     requires { length slots.now ≡ most_slots }
     ensures { result ≡ closed_claim (is_closed (accounts_of slots.now)) claim }
 {

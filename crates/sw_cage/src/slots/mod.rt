@@ -21,7 +21,7 @@ mod claims;
 mod slot;
 
 use self::claims::Claims;
-use self::slot::Place;
+use self::slot::CageSlot;
 use crate::refusal::{CloseRefusal, EjectRefusal, InstallRefusal};
 use std::alloc::{AllocError, Global};
 use std::marker::Model;
@@ -30,12 +30,12 @@ use sw_card::{Card, CardFault, Meter, MeterCard, Relay};
 use sw_verify::Slot;
 
 /// How many slots there are.
-pub(crate) const PLACES: usize = SLOTS as usize;
+pub(crate) const SLOT_PLACES: usize = SLOTS as usize;
 
 /// All slots, the cards in them, and by group the closed channel that it has. Contracts see the cards.
 #[derive(Drop)]
 pub(crate) struct Slots<R: Relay, M: Meter> {
-    slots: Vec<Place<R, M>>,
+    slots: Vec<CageSlot<R, M>>,
     claims: Claims,
 }
 
@@ -57,9 +57,9 @@ impl<R: Relay, M: Meter> Slots<R, M> {
     pub(crate) fn new(alloc: Global) -> Result<Self, AllocError>
         ensures { IfOk result (λ slots. slots ≡ replicate most_slots None) }
     {
-        let mut slots = Vec::with_capacity(alloc, PLACES)?;
-        for _ in 0..PLACES {
-            slots.push(Place::empty())?;
+        let mut slots = Vec::with_capacity(alloc, SLOT_PLACES)?;
+        for _ in 0..SLOT_PLACES {
+            slots.push(CageSlot::empty())?;
         }
         Ok(Slots {
             slots,
@@ -97,7 +97,7 @@ impl<R: Relay, M: Meter> Slots<R, M> {
         if !slot::is_fit(&card) {
             return Err((InstallRefusal::BadLayout, card));
         }
-        self.slots[slot as usize - 1] = Place::with(card);
+        self.slots[slot as usize - 1] = CageSlot::with(card);
         Ok(())
     }
 
@@ -369,7 +369,7 @@ impl<R: Relay, M: Meter> Slots<R, M> {
         ensures account { accounts_of self.new ≡ slice_set (accounts_of self.old) (slot - 1) (Some (of_meter meter.1)) }
     {
         let had_none = self.slots[slot as usize - 1].closed().is_empty();
-        self.slots[slot as usize - 1] = Place::with(Card::of_meter(meter));
+        self.slots[slot as usize - 1] = CageSlot::with(Card::of_meter(meter));
         if had_none {
             return;
         }

@@ -20,12 +20,12 @@ use sw_verify::Slot;
 
 /// A slot: its card, if it has one, and which of the card's channels are closed. Contracts see the card.
 #[derive(Drop)]
-pub(super) struct Place<R: Relay, M: Meter> {
+pub(super) struct CageSlot<R: Relay, M: Meter> {
     pub(super) card: Option<Card<R, M>>,
     closed: Mask,
 }
 
-impl<R: Relay, M: Meter> Model for Place<R, M> {
+impl<R: Relay, M: Meter> Model for CageSlot<R, M> {
     ghost use Rattle.std.specs.Prelude.{◌⊎◌, Option};
     ghost use Rattle.sw_card.specs.Account.{Account};
     ghost use Rattle.sw_cage.specs.Accounts.{option_account};
@@ -38,12 +38,12 @@ impl<R: Relay, M: Meter> Model for Place<R, M> {
     ghost invariant = { λ p. IsSlotMask p.closed (option_account p.card) };
 }
 
-impl<R: Relay, M: Meter> Place<R, M> {
+impl<R: Relay, M: Meter> CageSlot<R, M> {
     /// A slot without a card.
     pub(super) fn empty() -> Self
         ensures { result ≡ None }
     {
-        Place {
+        CageSlot {
             card: None,
             closed: Mask::new(),
         }
@@ -54,7 +54,7 @@ impl<R: Relay, M: Meter> Place<R, M> {
         ensures { result ≡ Some card }
     {
         let closed = card.closed_mask();
-        Place {
+        CageSlot {
             card: Some(card),
             closed,
         }
@@ -91,7 +91,10 @@ pub(super) fn is_fit<R: Relay, M: Meter>(card: &Card<R, M>) -> bool
 
 /// Closes a channel of the card in the slot.
 #[inline(always)]
-pub(super) fn close_in<R: Relay, M: Meter>(slot: &mut Place<R, M>, ch: u8) -> Result<(), CardFault>
+pub(super) fn close_in<R: Relay, M: Meter>(
+    slot: &mut CageSlot<R, M>,
+    ch: u8,
+) -> Result<(), CardFault>
     requires few { ch ≤ most_channels }
     requires formed { OptionWellFormed (option_account slot.old) }
     requires present { contents_have (slot_contents (option_account slot.old)) ch ≡ true }
@@ -118,7 +121,10 @@ pub(super) fn close_in<R: Relay, M: Meter>(slot: &mut Place<R, M>, ch: u8) -> Re
 
 /// Opens a channel of the card in the slot.
 #[inline(always)]
-pub(super) fn open_in<R: Relay, M: Meter>(slot: &mut Place<R, M>, ch: u8) -> Result<(), CardFault>
+pub(super) fn open_in<R: Relay, M: Meter>(
+    slot: &mut CageSlot<R, M>,
+    ch: u8,
+) -> Result<(), CardFault>
     requires range { (1 ≤ ch) × (ch ≤ most_channels) }
     requires present { contents_have (slot_contents (option_account slot.old)) ch ≡ true }
     requires closed { option_closed (option_account slot.old) ch ≡ true }
@@ -151,7 +157,7 @@ fn is_meter_at_rest<R: Relay, M: Meter>(card: &Card<R, M>) -> bool
 }
 
 /// Opens every channel of the card in the slot. A meter is not touched.
-pub(super) fn rest_in<R: Relay, M: Meter>(slot: &mut Place<R, M>)
+pub(super) fn rest_in<R: Relay, M: Meter>(slot: &mut CageSlot<R, M>)
     ensures rest { option_account slot.new ≡ option_rest (option_account slot.old) }
     ensures meter { meter_only slot.new ≡ meter_only slot.old }
 {
@@ -166,7 +172,7 @@ pub(super) fn rest_in<R: Relay, M: Meter>(slot: &mut Place<R, M>)
 }
 
 /// Takes the card out of the slot with every channel open.
-pub(super) fn take_rested<R: Relay, M: Meter>(slot: &mut Place<R, M>) -> Option<Card<R, M>>
+pub(super) fn take_rested<R: Relay, M: Meter>(slot: &mut CageSlot<R, M>) -> Option<Card<R, M>>
     ensures card { option_account result ≡ option_rest (option_account slot.old) }
     ensures meter { meter_only result ≡ meter_only slot.old }
     ensures empty { slot.new ≡ None }
@@ -177,7 +183,7 @@ pub(super) fn take_rested<R: Relay, M: Meter>(slot: &mut Place<R, M>) -> Option<
 }
 
 /// Opens every channel of the cards in the slots.
-pub(super) fn rest_all<R: Relay, M: Meter>(slots: &mut [Place<R, M>])
+pub(super) fn rest_all<R: Relay, M: Meter>(slots: &mut [CageSlot<R, M>])
     ensures open { accounts_of slots.new ≡ all_open (accounts_of slots.old) }
     ensures meters { meters_of slots.new ≡ meters_of slots.old }
 {
@@ -187,7 +193,7 @@ pub(super) fn rest_all<R: Relay, M: Meter>(slots: &mut [Place<R, M>])
 }
 
 /// Whether the card in the slot has the channel.
-pub(super) fn present_in<R: Relay, M: Meter>(slot: &Place<R, M>, ch: u8) -> bool
+pub(super) fn present_in<R: Relay, M: Meter>(slot: &CageSlot<R, M>, ch: u8) -> bool
     ensures { result ≡ contents_have (slot_contents (option_account slot.now)) ch }
 {
     match &slot.card {
@@ -197,7 +203,7 @@ pub(super) fn present_in<R: Relay, M: Meter>(slot: &Place<R, M>, ch: u8) -> bool
 }
 
 /// Whether the channel is closed.
-pub(super) fn closed_in<R: Relay, M: Meter>(slots: &[Place<R, M>], chan: Chan) -> bool
+pub(super) fn closed_in<R: Relay, M: Meter>(slots: &[CageSlot<R, M>], chan: Chan) -> bool
     requires { length slots.now ≡ most_slots }
     ensures { result ≡ is_closed (accounts_of slots.now) chan }
 {
@@ -207,7 +213,7 @@ pub(super) fn closed_in<R: Relay, M: Meter>(slots: &[Place<R, M>], chan: Chan) -
 
 /// The group of the channel of the card in the slot, which the card has.
 #[inline(always)]
-pub(super) fn group_in<R: Relay, M: Meter>(slot: &Place<R, M>, ch: u8) -> u8
+pub(super) fn group_in<R: Relay, M: Meter>(slot: &CageSlot<R, M>, ch: u8) -> u8
     requires { contents_have (slot_contents (option_account slot.now)) ch ≡ true }
     ensures { result ≡ contents_group (slot_contents (option_account slot.now)) ch }
 {
@@ -219,7 +225,7 @@ pub(super) fn group_in<R: Relay, M: Meter>(slot: &Place<R, M>, ch: u8) -> u8
 
 /// Takes the meter out of the slot.
 #[inline(always)]
-pub(super) fn take_meter<R: Relay, M: Meter>(slot: &mut Place<R, M>) -> MeterCard<M>
+pub(super) fn take_meter<R: Relay, M: Meter>(slot: &mut CageSlot<R, M>) -> MeterCard<M>
     requires { contents_are_meter (slot_contents (option_account slot.old)) ≡ true }
     ensures meter { slot.old ≡ Some (inr result.0, of_meter result.1) }
     ensures empty { slot.new ≡ None }
@@ -249,7 +255,7 @@ fn groups<R: Relay, M: Meter>(alloc: Global, card: &Card<R, M>) -> Result<Vec<u8
 /// What the slot holds, as a layout tells it.
 pub(super) fn contents_in<R: Relay, M: Meter>(
     alloc: Global,
-    slot: &Place<R, M>,
+    slot: &CageSlot<R, M>,
 ) -> Result<Slot, AllocError>
     ensures { IfOk result (λ contents. contents ≡ slot_contents (option_account slot.now)) }
 {
@@ -279,7 +285,7 @@ fn has_groups<R: Relay, M: Meter>(card: &Card<R, M>, groups: &[u8]) -> bool
 }
 
 /// Whether the slot holds what the layout's slot tells.
-pub(super) fn is_as_in<R: Relay, M: Meter>(slot: &Place<R, M>, contents: &Slot) -> bool
+pub(super) fn is_as_in<R: Relay, M: Meter>(slot: &CageSlot<R, M>, contents: &Slot) -> bool
     ensures { IsTrue result ↔ (contents.now ≡ slot_contents (option_account slot.now)) }
 {
     let Some(card) = &slot.card else {
