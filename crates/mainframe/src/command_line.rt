@@ -11,19 +11,19 @@ use std::net::{IpAddr, Ipv4Addr, SocketAddr};
 
 /// What a listing is, for the help of `check`.
 const LISTING: &str =
-    "A listing is scan code as text: the line `scan V` with its version, the line `meter S` with the \
-    slot of its meter, and one step a line, the first of number 0:\n\n  \
-    set K N         counter K, from 0 on, becomes N, 1 to 100000\n  \
-    wait LAYER      await arm1, arm2 and so on, or trig\n  \
+    "A listing is scan code as text: the line `scan 2`, the line `meter S` with the slot of its \
+    meter, 1 to 16, and one step a line, the first of number 0:\n\n  \
+    set K N         counter K, 0 to 3, becomes N, 1 to 100000\n  \
+    wait LAYER      await arm1, arm2, arm3 or trig\n  \
     timer LAYER U   await the end of that layer's timer, U microseconds\n  \
     pause U         await the end of U microseconds\n  \
-    close S!C       close channel C of slot S, or several joined by &\n  \
+    close S!C       close channel C of slot S, or up to four joined by &\n  \
     read            take a reading of the meter\n  \
-    open S!C        open channel C of slot S, or several joined by &\n  \
+    open S!C        open channel C of slot S, or up to four joined by &\n  \
     loop K T        counter K goes down by one; where it isn't 0, go to step T\n  \
     halt            the end\n\n\
-    How many slots, layers, counters and joined channels there are, and whether there is a timer, is told \
-    of each version in docs/LISTING.md.\n\n\
+    One that begins with `scan 1` is read too: its slots are 1 to 8, its counters 0 to 2, and it \
+    has no arm3 and no timer.\n\n\
     The answer is `ok bound B readings R`, `refused N Name` or `line L: Name`; why, on standard error.";
 
 /// What is served, for the help of `serve`.

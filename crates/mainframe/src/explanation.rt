@@ -14,7 +14,7 @@ pub fn explain_fault(alloc: Global, text: &[u8], error: ListError) -> Option<Str
         ListFault::BadStep if ends_in_return(text, line) =>
             "a line ends with a line feed alone, and here a carriage return stands before it",
         ListFault::BadStep if line == 1 =>
-            "a listing begins with `scan`, a space, a version that is read here, and a line feed",
+            "a listing begins with `scan` and its version, as `scan 1`, and a line feed",
         ListFault::BadStep if line == 2 =>
             "the second line is `meter`, a space, a slot and a line feed",
         ListFault::BadStep => return by_version(alloc, text, line, NO_STEP),
