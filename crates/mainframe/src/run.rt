@@ -87,6 +87,7 @@ pub fn run_on<R: Relay, M: Meter, S: LineSource<W>, W: Write>(
 {
     let mut talker = Talker::new(alloc, sid);
     let mut line = Vec::new(alloc);
+    let mut told = Vec::new(alloc);
     let mut unwritten = Vec::new(alloc);
     let mut at_hand = 0;
     let mut turns = TURNS;
@@ -98,6 +99,7 @@ pub fn run_on<R: Relay, M: Meter, S: LineSource<W>, W: Write>(
             &mut talker,
             at_hand,
             &mut line,
+            &mut told,
             &mut unwritten,
         ) {
             return Err(fault);
@@ -111,7 +113,7 @@ pub fn run_on<R: Relay, M: Meter, S: LineSource<W>, W: Write>(
         if line.is_empty() {
             return Ok(());
         }
-        let told = talker.message(&line, desk);
+        talker.message_into(&line, desk, &mut told);
         if !desk.rest() {
             return Err(RunFault::Input);
         }
@@ -134,6 +136,7 @@ fn answer_at_hand<R: Relay, M: Meter, S: LineSource<W>, W: Write>(
     talker: &mut Talker,
     at_hand: usize,
     line: &mut Vec<u8>,
+    told: &mut Vec<u8>,
     unwritten: &mut Vec<u8>,
 ) -> Result<(), RunFault>
     ensures ok { (turns : ℕ) → OnOk result (AnswersAtHand
@@ -152,7 +155,7 @@ fn answer_at_hand<R: Relay, M: Meter, S: LineSource<W>, W: Write>(
         if length == 0 {
             return Ok(());
         }
-        let told = talker.message(line, desk);
+        talker.message_into(line, desk, told);
         if !desk.rest() {
             if let Err(fault) = write_out(writer, unwritten) {
                 return Err(fault);
@@ -161,7 +164,7 @@ fn answer_at_hand<R: Relay, M: Meter, S: LineSource<W>, W: Write>(
         }
         source.take(length);
         at_hand -= length;
-        if let Err(fault) = gather(writer, unwritten, &told) {
+        if let Err(fault) = gather(writer, unwritten, told) {
             return Err(fault);
         }
     }

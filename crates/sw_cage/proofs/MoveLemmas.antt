@@ -121,11 +121,6 @@ broken_call old most new c p f d = record {
   };
 }
 
-pub broken_result : {T E : Type 0} (r : Result T E) (old most new : Accounts) (c : Channel) → is_present (layout_of old) c ≡ true
-    → OnErr r (IsChannelFault old c most new) → OnErr r (IsDisturbed old (c ∷ []) new) → OnErr r (RelayCallFailed old new)
-broken_result (Ok t) old most new c p f d = tt
-broken_result (Err e) old most new c p f d = broken_call old most new c p f d
-
 relay_after : (old mid new : Accounts) → all_open mid ≡ all_open old → RelayFailed mid new → RelayFailed old new
 relay_after old mid new m f =
     let s = f.slot in

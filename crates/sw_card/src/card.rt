@@ -120,8 +120,8 @@ impl<R: Relay, M: Meter> Card<R, M> {
         ensures { result ≡ self.now.1.serial }
     {
         match &self.kind {
-            Kind::Relays(card) => card.serial(),
-            Kind::Meters(card) => card.serial(),
+            Kind::Relays(card) => card.relay.serial(),
+            Kind::Meters(card) => card.meter.serial(),
         }
     }
 
@@ -130,8 +130,8 @@ impl<R: Relay, M: Meter> Card<R, M> {
         ensures { result ≡ self.now.1.failures }
     {
         match &self.kind {
-            Kind::Relays(card) => card.failures(),
-            Kind::Meters(card) => card.failures(),
+            Kind::Relays(card) => card.relay.failures(),
+            Kind::Meters(card) => card.meter.failures(),
         }
     }
 
@@ -141,7 +141,7 @@ impl<R: Relay, M: Meter> Card<R, M> {
         ensures closed { result ≡ length self.now.1.closed }
     {
         match &self.kind {
-            Kind::Relays(card) => card.channels(),
+            Kind::Relays(card) => card.relay.channels(),
             Kind::Meters(_) => 0,
         }
     }
@@ -151,7 +151,7 @@ impl<R: Relay, M: Meter> Card<R, M> {
         ensures { result ≡ group_at self.now.1.groups ch }
     {
         match &self.kind {
-            Kind::Relays(card) => card.group(ch),
+            Kind::Relays(card) => card.relay.group(ch),
             Kind::Meters(_) => 0,
         }
     }
@@ -161,7 +161,7 @@ impl<R: Relay, M: Meter> Card<R, M> {
         ensures { result ≡ closed_at self.now.1.closed ch }
     {
         match &self.kind {
-            Kind::Relays(card) => card.is_closed(ch),
+            Kind::Relays(card) => card.relay.is_closed(ch),
             Kind::Meters(_) => false,
         }
     }
@@ -174,7 +174,7 @@ impl<R: Relay, M: Meter> Card<R, M> {
         ensures err { OnErr result (IsFault self.old.1 (set_closed self.old.1.closed ch true) self.new.1) }
     {
         match &mut self.kind {
-            Kind::Relays(card) => card.close(ch),
+            Kind::Relays(card) => card.relay.close(ch),
             Kind::Meters(_) => unreachable!(),
         }
     }
@@ -186,7 +186,7 @@ impl<R: Relay, M: Meter> Card<R, M> {
         ensures err { OnErr result (IsFault self.old.1 self.old.1.closed self.new.1) }
     {
         match &mut self.kind {
-            Kind::Relays(card) => card.open(ch),
+            Kind::Relays(card) => card.relay.open(ch),
             Kind::Meters(_) => unreachable!(),
         }
     }
@@ -196,7 +196,7 @@ impl<R: Relay, M: Meter> Card<R, M> {
         ensures { self.new.1 ≡ at_rest self.old.1 }
     {
         match &mut self.kind {
-            Kind::Relays(card) => card.open_all(),
+            Kind::Relays(card) => card.relay.open_all(),
             Kind::Meters(_) => {}
         }
     }

@@ -54,7 +54,7 @@ impl Meter for Box<dyn Meter + Send> {
 /// A meter card as one value. Contracts see the card itself and its account.
 #[derive(Drop)]
 pub struct MeterCard<M: Meter> {
-    meter: M,
+    pub(crate) meter: M,
 }
 
 impl<M: Meter> Model for MeterCard<M> {

@@ -109,7 +109,7 @@ impl Relay for Box<dyn Relay + Send> {
 /// A relay card as one value. Contracts see the card itself and its account.
 #[derive(Drop)]
 pub struct RelayCard<R: Relay> {
-    relay: R,
+    pub(crate) relay: R,
 }
 
 impl<R: Relay> Model for RelayCard<R> {

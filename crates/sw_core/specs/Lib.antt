@@ -1,3 +1,4 @@
+pub mod AnswerText
 pub mod Answers
 pub mod Sessions
 pub mod Seats

@@ -1,5 +1,6 @@
 //! What is asked of the mainframe, and what it answers.
 
+use crate::answer_text::AnswerText;
 use sw_base::{ScpiError, Sequence};
 use sw_cage::{EjectRefusal, Finished, InstallRefusal, Job, Ticket};
 use sw_card::{Card, Meter, Relay};
@@ -65,7 +66,7 @@ pub enum SessionAnswer {
     /// The session is being cleared: the ask was dropped.
     Broken,
     /// It was done. A query's answer comes with it.
-    Done(Option<Sequence<u8>>),
+    Done(Option<AnswerText>),
     /// It is not so yet.
     Missed,
     /// The size that was noted last, in bytes.

@@ -87,20 +87,36 @@ pub fn acts_unnumbered<R: Relay, M: Meter>(ask: &Ask<R, M>) -> bool
     }
 }
 
-/// Hands a session's ask back that can't be numbered. Out of line, as `held`, so that a caller leaves its ask in place.
+/// Hands a session's ask back that can't be numbered. Out of line, as `hold`, so that a caller leaves its ask in place.
 #[inline(never)]
-pub fn worn(ask: SessionAsk) -> SessionAnswer
-    ensures { result ≡ Worn ask }
+pub fn hand_back(ask: SessionAsk, answer: &mut SessionAnswer)
+    ensures { answer.new ≡ Worn ask }
 {
-    SessionAnswer::Worn(ask)
+    *answer = SessionAnswer::Worn(ask);
 }
 
 /// Hands a session's ask back that is held.
 #[inline(never)]
-pub fn held(ask: SessionAsk) -> SessionAnswer
-    ensures { result ≡ Hold ask }
+pub fn hold(ask: SessionAsk, answer: &mut SessionAnswer)
+    ensures { answer.new ≡ Hold ask }
 {
-    SessionAnswer::Hold(ask)
+    *answer = SessionAnswer::Hold(ask);
+}
+
+/// Leaves an answer to an ask of which nothing comes.
+#[inline(never)]
+pub fn turn_away(told: SessionAnswer, answer: &mut SessionAnswer)
+    ensures { answer.new ≡ told }
+{
+    *answer = told;
+}
+
+/// Leaves an answer where the caller looks.
+#[inline(always)]
+pub fn put(told: SessionAnswer, answer: &mut SessionAnswer)
+    ensures { answer.new ≡ told }
+{
+    *answer = told;
 }
 
 /// Hands an ask back that can't be numbered.
@@ -111,7 +127,7 @@ pub fn unnumbered<R: Relay, M: Meter>(ask: Ask<R, M>) -> Answer<R, M>
     ensures back { HandsBack ask result }
 {
     match ask {
-        Ask::Session(ask) => Answer::Session(worn(ask), None),
+        Ask::Session(ask) => Answer::Session(SessionAnswer::Worn(ask), None),
         ask => Answer::Worn(ask),
     }
 }

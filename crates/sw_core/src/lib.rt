@@ -1,7 +1,8 @@
 //! The whole state of the mainframe, and the calls that change it: one step for each ask.
 //!
-//! The crate's contract to the layers above: `Core::apply`, and `ask`, which does its part for a session's ask, answer
-//! and go on as the relation `Step` of `specs/Step.antt` says, with one line for each legal pair of ask and answer;
+//! The crate's contract to the layers above: `Core::apply`, and `ask`, which does its part for a session's ask and
+//! answers where the caller looks, go on as the relation `Step` of `specs/Step.antt` says, with one line for each legal
+//! pair of ask and answer;
 //! `come_back` and `elapse` do its part for a meter's return and the end of a pause, and leave the next work where the
 //! caller looks; `Core::holds` tells of a step that would change nothing. Over every run
 //! of such steps no absent channel is closed and no two closed channels clash, and a scan does a prefix of its plan's
@@ -10,6 +11,7 @@
 //! Not promised: that memory is there, and what a relay really does, which is its card's own word.
 #![tactic(auto)]
 
+mod answer_text;
 mod ask;
 mod asks;
 mod commands;
@@ -23,6 +25,7 @@ mod sessions;
 mod state;
 mod text;
 
+pub use answer_text::{AnswerForm, AnswerText};
 pub use ask::{Answer, Ask, SessionAnswer, SessionAsk, Sid, Work};
 pub use laws::{
     every_run_is_good, every_scan_ends, mainframe_stays_good, relays_obey, runs_go_on,

@@ -7,9 +7,10 @@ ghost use Rattle.sw_status.specs.StatusModel.{registers_of};
 ghost use Rattle.sw_core.specs.Action.{query_text, layer_text, group_text};
 ghost use Rattle.sw_core.specs.Step.{StepText, StepReadings};
 
+use crate::answer_text::AnswerText;
 use crate::ask::SessionAnswer;
 use crate::state::Core;
-use crate::text::{all_readings, identity, seconds, source_word, told, version, whole};
+use crate::text::{all_readings, identity, seconds, source_word, told, version};
 use std::alloc::Global;
 use sw_base::{LayerName, ScpiError, Sequence, StatusGroup};
 use sw_card::{Meter, Relay};
@@ -24,19 +25,19 @@ impl<R: Relay, M: Meter> Core<R, M> {
     {
         match query {
             PlainQuery::Identify => told(identity(alloc)),
-            PlainQuery::EventEnable => self.number(alloc, u64::from(self.status.ese())),
-            PlainQuery::ServiceEnable => self.number(alloc, u64::from(self.status.sre())),
-            PlainQuery::StatusByte => self.number(alloc, u64::from(self.status.byte(available))),
-            PlainQuery::SelfTest => self.number(alloc, 0),
-            PlainQuery::InitiateContinuous => self.number(alloc, 0),
+            PlainQuery::EventEnable => self.number(u64::from(self.status.ese())),
+            PlainQuery::ServiceEnable => self.number(u64::from(self.status.sre())),
+            PlainQuery::StatusByte => self.number(u64::from(self.status.byte(available))),
+            PlainQuery::SelfTest => self.number(0),
+            PlainQuery::InitiateContinuous => self.number(0),
             PlainQuery::CloseState => self.close_state(alloc),
             PlainQuery::Scan => self.scan_query(alloc),
-            PlainQuery::ScanMeter => self.number(alloc, u64::from(self.settings.meter())),
-            PlainQuery::ErrorCount => self.number(alloc, self.status.count() as u64),
+            PlainQuery::ScanMeter => self.number(u64::from(self.settings.meter())),
+            PlainQuery::ErrorCount => self.number(self.status.count() as u64),
             PlainQuery::Version => told(version(alloc)),
-            PlainQuery::Points => self.number(alloc, u64::from(self.settings.points())),
-            PlainQuery::ActualPoints => self.number(alloc, self.cage.readings().len() as u64),
-            PlainQuery::Bound => self.number(alloc, self.settings.bound()),
+            PlainQuery::Points => self.number(u64::from(self.settings.points())),
+            PlainQuery::ActualPoints => self.number(self.cage.readings().len() as u64),
+            PlainQuery::Bound => self.number(self.settings.bound()),
         }
     }
 
@@ -53,7 +54,7 @@ impl<R: Relay, M: Meter> Core<R, M> {
     {
         let layer = self.settings.layer(layer);
         match query {
-            LayerQuery::Count => self.number(alloc, u64::from(layer.count)),
+            LayerQuery::Count => self.number(u64::from(layer.count)),
             LayerQuery::Source => told(source_word(alloc, layer.source)),
             LayerQuery::Delay => told(seconds(alloc, layer.delay_us)),
             LayerQuery::Timer => told(seconds(alloc, layer.timer_us)),
@@ -62,12 +63,7 @@ impl<R: Relay, M: Meter> Core<R, M> {
 
     /// Answers a query of a status group.
     #[inline(always)]
-    pub(crate) fn tell_group(
-        &self,
-        alloc: Global,
-        query: GroupQuery,
-        group: StatusGroup,
-    ) -> SessionAnswer
+    pub(crate) fn tell_group(&self, query: GroupQuery, group: StatusGroup) -> SessionAnswer
         ensures { StepText self.now (group_text query (registers_of self.now.status group)) self.now.status Bool.false
             result self.now }
     {
@@ -78,14 +74,15 @@ impl<R: Relay, M: Meter> Core<R, M> {
             GroupQuery::PositiveTransition => group.ptr(),
             GroupQuery::NegativeTransition => group.ntr(),
         };
-        self.number(alloc, u64::from(bits))
+        self.number(u64::from(bits))
     }
 
     /// A number as an answer.
-    pub(crate) fn number(&self, alloc: Global, n: u64) -> SessionAnswer
+    #[inline(always)]
+    pub(crate) fn number(&self, n: u64) -> SessionAnswer
         ensures { StepText self.now (decimal n) self.now.status Bool.false result self.now }
     {
-        told(whole(alloc, n))
+        SessionAnswer::Done(Some(AnswerText::number(n)))
     }
 
     /// The channels of the scan.
@@ -95,7 +92,7 @@ impl<R: Relay, M: Meter> Core<R, M> {
             self.now }
     {
         match print_positions(alloc, self.settings.list()) {
-            Ok(text) => SessionAnswer::Done(Some(Sequence::new(text))),
+            Ok(text) => SessionAnswer::Done(Some(AnswerText::bytes(Sequence::new(text)))),
             Err(error) => SessionAnswer::Refused(error),
         }
     }
@@ -110,7 +107,7 @@ impl<R: Relay, M: Meter> Core<R, M> {
             return SessionAnswer::Refused(ScpiError::DataCorruptOrStale);
         }
         match all_readings(alloc, readings) {
-            Ok(text) => SessionAnswer::Done(Some(text)),
+            Ok(text) => SessionAnswer::Done(Some(AnswerText::bytes(text))),
             Err(_) => SessionAnswer::Refused(ScpiError::OutOfMemory),
         }
     }

@@ -8,6 +8,7 @@ ghost use Rattle.sw_core.specs.Answers.{oldest_entry, all_entries};
 ghost use Rattle.sw_core.specs.Registers.{card_fault_reported, card_fault_cleared};
 ghost use Rattle.sw_core.specs.Step.{StepText, StepDone};
 
+use crate::answer_text::AnswerText;
 use crate::ask::SessionAnswer;
 use crate::state::Core;
 use crate::text::{all_entries, oldest_entry, whole};
@@ -69,7 +70,7 @@ impl<R: Relay, M: Meter> Core<R, M> {
         match whole(alloc, u64::from(self.status.esr())) {
             Ok(text) => {
                 let _ = self.status.read_esr();
-                SessionAnswer::Done(Some(text))
+                SessionAnswer::Done(Some(AnswerText::bytes(text)))
             }
             Err(_) => SessionAnswer::Refused(ScpiError::OutOfMemory),
         }
@@ -85,7 +86,7 @@ impl<R: Relay, M: Meter> Core<R, M> {
         match whole(alloc, u64::from(self.status.group(group).event())) {
             Ok(text) => {
                 let _ = self.status.take_event(group);
-                SessionAnswer::Done(Some(text))
+                SessionAnswer::Done(Some(AnswerText::bytes(text)))
             }
             Err(_) => SessionAnswer::Refused(ScpiError::OutOfMemory),
         }
@@ -100,7 +101,7 @@ impl<R: Relay, M: Meter> Core<R, M> {
         match oldest_entry(alloc, self.status.all_errors()) {
             Ok(text) => {
                 let _ = self.status.pop_error();
-                SessionAnswer::Done(Some(text))
+                SessionAnswer::Done(Some(AnswerText::bytes(text)))
             }
             Err(_) => SessionAnswer::Refused(ScpiError::OutOfMemory),
         }
@@ -115,7 +116,7 @@ impl<R: Relay, M: Meter> Core<R, M> {
         match all_entries(alloc, self.status.all_errors()) {
             Ok(text) => {
                 self.status.clear_errors();
-                SessionAnswer::Done(Some(text))
+                SessionAnswer::Done(Some(AnswerText::bytes(text)))
             }
             Err(_) => SessionAnswer::Refused(ScpiError::OutOfMemory),
         }

@@ -9,6 +9,7 @@ ghost use Rattle.sw_core.specs.Action.{aborted, reset};
 ghost use Rattle.sw_core.specs.Panel.{with_cards};
 ghost use Rattle.sw_core.specs.Step.{StepText, StepDone, StepClose, StepOpen, StepFlags};
 
+use crate::answer_text::AnswerText;
 use crate::ask::SessionAnswer;
 use crate::registers::{clear_card_fault, report_card_fault};
 use crate::state::Core;
@@ -107,7 +108,7 @@ impl<R: Relay, M: Meter> Core<R, M> {
             return SessionAnswer::Refused(ScpiError::HardwareMissing);
         }
         match flags(alloc, &self.cage, closed, chans) {
-            Ok(text) => SessionAnswer::Done(Some(text)),
+            Ok(text) => SessionAnswer::Done(Some(AnswerText::bytes(text))),
             Err(_) => SessionAnswer::Refused(ScpiError::OutOfMemory),
         }
     }
@@ -120,7 +121,7 @@ impl<R: Relay, M: Meter> Core<R, M> {
     {
         match self.cage.closed_chans(alloc) {
             Ok(closed) => match print_list(alloc, &closed) {
-                Ok(text) => SessionAnswer::Done(Some(Sequence::new(text))),
+                Ok(text) => SessionAnswer::Done(Some(AnswerText::bytes(Sequence::new(text)))),
                 Err(error) => SessionAnswer::Refused(error),
             },
             Err(_) => SessionAnswer::Refused(ScpiError::OutOfMemory),

@@ -17,6 +17,7 @@ ghost use Rattle.sw_core.specs.declared.ask.SessionAsk.TheVariants.{Unit};
 ghost use Rattle.sw_lex.specs.declared.command.Command.TheVariants as Command;
 
 use crate::ask::{Answer, SessionAnswer, Work};
+use crate::asks::put;
 use crate::registers::{report_card_fault, set_card_fault};
 use crate::state::Core;
 use std::alloc::{AllocError, Global};
@@ -107,34 +108,40 @@ impl<R: Relay, M: Meter> Core<R, M> {
         told
     }
 
-    /// Offers a session's happening to the scan; where it isn't taken it is refused by this error. What the scan awaits
-    /// now is left in `work`.
+    /// Offers a session's happening to the scan; where it isn't taken it is refused by this error. What the session is
+    /// answered is left in `answer`, and what the scan awaits now in `work`.
     #[inline(never)]
     pub(crate) fn trigger(
         &mut self,
         happening: Happening,
         error: ScpiError,
+        answer: &mut SessionAnswer,
         work: &mut Option<Work<M>>,
-    ) -> SessionAnswer
-        ensures { StepHappens self.old happening error (any_failed self.old.cage.cards self.new.cage.cards) result
+    )
+        ensures { StepHappens self.old happening error (any_failed self.old.cage.cards self.new.cage.cards) answer.new
             (work_seen work.new) self.new }
     {
         let told = self.happens(happening);
-        let answer = session_told(&told, error);
+        put(session_told(&told, error), answer);
         *work = work_of(told);
-        answer
     }
 
     /// Offers a layer's signal to the scan.
-    pub(crate) fn signal(&mut self, layer: LayerName, work: &mut Option<Work<M>>) -> SessionAnswer
+    #[inline(never)]
+    pub(crate) fn signal(
+        &mut self,
+        layer: LayerName,
+        answer: &mut SessionAnswer,
+        work: &mut Option<Work<M>>,
+    )
         ensures { (sid : Sid) (available : Bool) → StepJoined self.old (Unit sid (Command.Signal layer) available)
-            (any_failed self.old.cage.cards self.new.cage.cards) result (work_seen work.new) self.new }
+            (any_failed self.old.cage.cards self.new.cage.cards) answer.new (work_seen work.new) self.new }
     {
         let error = match layer {
             LayerName::Trigger => ScpiError::TriggerIgnored,
             LayerName::Arm(_) => ScpiError::ArmIgnored,
         };
-        self.trigger(Happening::Signal(layer), error, work)
+        self.trigger(Happening::Signal(layer), error, answer, work);
     }
 
     /// Offers a happening that is no session's to the scan.

@@ -14,10 +14,13 @@ ghost use Rattle.sw_core.specs.Step.{drops, shuts_out};
 ghost use Rattle.sw_core.specs.declared.ask.Sid.{Sid};
 ghost use Rattle.sw_core.specs.declared.ask.Ask.TheVariants as Ask;
 ghost use Rattle.sw_core.specs.declared.ask.SessionAnswer.TheVariants.{Hold};
+ghost use Rattle.sw_core.specs.declared.ask.SessionAsk.TheVariants.{Unit, Bus};
+ghost use Rattle.sw_lex.specs.declared.command.Command.{Command};
 
 use crate::ask::{Answer, Ask, SessionAnswer, SessionAsk, Sid, Work};
 use crate::asks::{
-    acts_unnumbered, asker, held, is_held, session_acts_unnumbered, unnumbered, worn,
+    acts_unnumbered, asker, hand_back, hold, is_held, put, session_acts_unnumbered, turn_away,
+    unnumbered,
 };
 use crate::registers::clear_card_fault;
 use crate::sessions::Sessions;
@@ -117,26 +120,27 @@ impl<R: Relay, M: Meter> Core<R, M> {
         answer
     }
 
-    /// Does what a session asks: one event, as `apply` does it, where it can be numbered. What its scan awaits now is
-    /// left in `work`.
+    /// Does what a session asks: one event, as `apply` does it, where it can be numbered. What it is answered is left in
+    /// `answer`, and what its scan awaits now in `work`.
     #[tactic(auto, using(crate::proofs::NumberedLemmas::worn_step, crate::proofs::NumberedLemmas::numbered_step))]
     #[inline(always)]
     pub fn ask(
         &mut self,
         alloc: Global,
         ask: SessionAsk,
+        answer: &mut SessionAnswer,
         work: &mut Option<Work<M>>,
-    ) -> SessionAnswer
+    )
         requires { work.old ≡ None }
         ensures { Step self.old (AskSession ask) (any_failed self.old.cage.cards self.new.cage.cards)
-            (SaysSession result (work_seen work.new)) self.new }
+            (SaysSession answer.new (work_seen work.new)) self.new }
     {
         if self.events == u64::MAX && !session_acts_unnumbered(&ask) {
-            return worn(ask);
+            hand_back(ask, answer);
+            return;
         }
-        let answer = self.session(alloc, ask, work);
-        self.end_session_event(&answer);
-        answer
+        self.session(alloc, ask, answer, work);
+        self.end_session_event(answer);
     }
 
     /// Whether what a session asks would be held now, with nothing changed. An ask for a lock is answered no.
@@ -172,8 +176,9 @@ impl<R: Relay, M: Meter> Core<R, M> {
     {
         match ask {
             Ask::Session(ask) => {
+                let mut answer = SessionAnswer::Stranger;
                 let mut work = None;
-                let answer = self.session(alloc, ask, &mut work);
+                self.session(alloc, ask, &mut answer, &mut work);
                 Answer::Session(answer, work)
             }
             Ask::Install(slot, card) => self.install(slot, card),
@@ -219,39 +224,45 @@ impl<R: Relay, M: Meter> Core<R, M> {
         &mut self,
         alloc: Global,
         ask: SessionAsk,
+        answer: &mut SessionAnswer,
         work: &mut Option<Work<M>>,
-    ) -> SessionAnswer
+    )
         requires { work.old ≡ None }
-        ensures { StepSession (asker_of ask) self.old ask (any_failed self.old.cage.cards self.new.cage.cards) result
-            (work_seen work.new) self.new }
+        ensures { StepSession (asker_of ask) self.old ask (any_failed self.old.cage.cards self.new.cage.cards)
+            answer.new (work_seen work.new) self.new }
     {
         let Some(sid) = asker(&ask) else {
-            return self.newcomer(ask);
+            self.newcomer(ask, answer);
+            return;
         };
         if !self.sessions.has(sid) {
-            return SessionAnswer::Stranger;
+            turn_away(SessionAnswer::Stranger, answer);
+            return;
         }
         if self.sessions.drops(sid, &ask) {
-            return SessionAnswer::Broken;
+            turn_away(SessionAnswer::Broken, answer);
+            return;
         }
         if self.sessions.shuts_out(sid, &ask) {
-            return held(ask);
+            hold(ask, answer);
+            return;
         }
         if is_held(&ask) && self.cage.is_running() {
-            return held(ask);
+            hold(ask, answer);
+            return;
         }
-        self.joined(alloc, sid, ask, work)
+        self.joined(alloc, sid, ask, answer, work);
     }
 
     /// Does what none of the sessions asks.
     #[inline(never)]
-    fn newcomer(&mut self, ask: SessionAsk) -> SessionAnswer
+    fn newcomer(&mut self, ask: SessionAsk, answer: &mut SessionAnswer)
         requires { asker_of ask ≡ None }
-        ensures { StepNew self.old ask (any_failed self.old.cage.cards self.new.cage.cards) result None self.new }
+        ensures { StepNew self.old ask (any_failed self.old.cage.cards self.new.cage.cards) answer.new None self.new }
     {
         match ask {
-            SessionAsk::Attach(number) => self.attach(number),
-            _ => self.join(),
+            SessionAsk::Attach(number) => put(self.attach(number), answer),
+            _ => put(self.join(), answer),
         }
     }
 
@@ -285,30 +296,58 @@ impl<R: Relay, M: Meter> Core<R, M> {
         alloc: Global,
         sid: Sid,
         ask: SessionAsk,
+        answer: &mut SessionAnswer,
         work: &mut Option<Work<M>>,
-    ) -> SessionAnswer
+    )
         requires asker { asker_of ask ≡ Some sid }
         requires joined { IsJoined self.old.sessions sid }
         requires unheld { is_held ask && is_running self.old ≡ false }
         requires empty { work.old ≡ None }
-        ensures { StepJoined self.old ask (any_failed self.old.cage.cards self.new.cage.cards) result
+        ensures { StepJoined self.old ask (any_failed self.old.cage.cards self.new.cage.cards) answer.new
+            (work_seen work.new) self.new }
+    {
+        match ask {
+            SessionAsk::Unit(_, Command::Plain(Plain::Trigger), _) => {
+                self.trigger(Happening::Bus, ScpiError::TriggerIgnored, answer, work);
+            }
+            SessionAsk::Unit(_, Command::Signal(layer), _) => self.signal(layer, answer, work),
+            SessionAsk::Unit(_, command, available) => {
+                put(self.command(alloc, command, available), answer);
+            }
+            SessionAsk::Bus(_) => {
+                self.trigger(Happening::Bus, ScpiError::TriggerIgnored, answer, work);
+            }
+            ask => self.serve(alloc, sid, ask, answer, work),
+        }
+    }
+
+    /// Does what a session that is joined asks beside what drives the instrument by messages.
+    #[tactic(auto, using(crate::proofs::CallsLemmas::failed_same))]
+    #[inline(never)]
+    fn serve(
+        &mut self,
+        alloc: Global,
+        sid: Sid,
+        ask: SessionAsk,
+        answer: &mut SessionAnswer,
+        work: &mut Option<Work<M>>,
+    )
+        requires asker { asker_of ask ≡ Some sid }
+        requires joined { IsJoined self.old.sessions sid }
+        requires apart { (command : Command) (available : Bool) → ask ≡ Unit sid command available → ⊥ }
+        requires untriggered { ask ≡ Bus sid → ⊥ }
+        requires empty { work.old ≡ None }
+        ensures { StepJoined self.old ask (any_failed self.old.cage.cards self.new.cage.cards) answer.new
             (work_seen work.new) self.new }
     {
         match ask {
             SessionAsk::Fault(_, error) => {
                 self.status.push_error(error);
-                SessionAnswer::Done(None)
+                put(SessionAnswer::Done(None), answer);
             }
-            SessionAsk::Unit(_, Command::Plain(Plain::Trigger), _) => {
-                self.trigger(Happening::Bus, ScpiError::TriggerIgnored, work)
-            }
-            SessionAsk::Unit(_, Command::Signal(layer), _) => self.signal(layer, work),
-            SessionAsk::Unit(_, command, available) => self.command(alloc, command, available),
-            SessionAsk::Bus(_) => self.trigger(Happening::Bus, ScpiError::TriggerIgnored, work),
-            SessionAsk::Snapshot(_) => self.snapshot(alloc),
-            SessionAsk::Start(_, plan) => self.start(alloc, plan, work),
-            SessionAsk::Join | SessionAsk::Attach(_) => unreachable!(),
-            ask => self.sessions.serve(alloc, sid, ask),
+            SessionAsk::Snapshot(_) => put(self.snapshot(alloc), answer),
+            SessionAsk::Start(_, plan) => put(self.start(alloc, plan, work), answer),
+            ask => put(self.sessions.serve(alloc, sid, ask), answer),
         }
     }
 }

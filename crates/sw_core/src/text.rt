@@ -8,6 +8,7 @@ ghost use Rattle.sw_core.specs.Answers.{identity_text, version, yes_or_no, as_as
 ghost use Rattle.sw_core.specs.Answers.{oldest_entry};
 ghost use Rattle.sw_core.specs.Answers.{all_entries, source_word, IsRow, IsOpenEnded, AnswersText};
 
+use crate::answer_text::AnswerText;
 use crate::ask::SessionAnswer;
 use std::alloc::{AllocError, Global};
 use sw_base::{
@@ -208,7 +209,7 @@ pub fn told(text: Result<Sequence<u8>, AllocError>) -> SessionAnswer
     ensures { AnswersText text result }
 {
     match text {
-        Ok(text) => SessionAnswer::Done(Some(text)),
+        Ok(text) => SessionAnswer::Done(Some(AnswerText::bytes(text))),
         Err(_) => SessionAnswer::Refused(ScpiError::OutOfMemory),
     }
 }

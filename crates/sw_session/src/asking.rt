@@ -21,19 +21,22 @@ use sw_verify::Plan;
 /// asked for bytes.
 pub const TURNS: u64 = 1 << 32;
 
-/// Asks for a command that is not the session's own. `answered` says whether the message has answered before.
+/// Asks for a command that is not the session's own, and leaves in `answer` what is answered. `answered` says whether
+/// the message has answered before.
 #[inline(always)]
 pub fn ask_command<D: Desk>(
     desk: &mut D,
     sid: Sid,
     command: Command,
     answered: bool,
-) -> SessionAnswer
+    answer: &mut SessionAnswer,
+)
     requires { is_own command ≡ false }
     ensures { (macros : Table) → Led D.passes desk.old desk.new (λ t rest.
-        Begins sid answered (Ok command) macros t (begun_with result macros rest)) }
+        Begins sid answered (Ok command) macros t (begun_with answer.new macros rest)) }
 {
-    settle(desk, sid, SessionAsk::Unit(sid, command, answered))
+    let ask = SessionAsk::Unit(sid, command, answered);
+    settle_into(desk, sid, ask, answer);
 }
 
 /// Whether a command is the session's own: of macros, the beginning of a scan, or the reset, which switches macros off.
@@ -149,15 +152,23 @@ fn plan<D: Desk>(desk: &mut D, sid: Sid, alloc: Global, told: SessionAnswer) -> 
 }
 
 /// Asks until the ask isn't held; gives it up where the waiting is over, or after `TURNS` turns.
-#[inline(always)]
 pub fn settle<D: Desk>(desk: &mut D, sid: Sid, ask: SessionAsk) -> SessionAnswer
     ensures { Led D.passes desk.old desk.new (λ t rest. Settles sid 0 ask t result rest) }
 {
-    let mut answer = desk.ask(ask);
-    if let SessionAnswer::Hold(_) = &answer {
-        outlast(desk, sid, &mut answer);
-    }
+    let mut answer = SessionAnswer::Stranger;
+    settle_into(desk, sid, ask, &mut answer);
     answer
+}
+
+/// Asks as `settle` does, and leaves in `answer` what is answered.
+#[inline(always)]
+fn settle_into<D: Desk>(desk: &mut D, sid: Sid, ask: SessionAsk, answer: &mut SessionAnswer)
+    ensures { Led D.passes desk.old desk.new (λ t rest. Settles sid 0 ask t answer.new rest) }
+{
+    desk.ask_into(ask, answer);
+    if let SessionAnswer::Hold(_) = answer {
+        outlast(desk, sid, answer);
+    }
 }
 
 /// Puts what an ask that is held comes to in the place of its answer.

@@ -134,7 +134,8 @@ impl<R: Relay, M: Meter> CoreDesk<R, M> {
     {
         match self.take() {
             Some(piece) => {
-                let work = self.carry(piece);
+                let mut work = None;
+                self.carry_out(piece, &mut work);
                 self.keep(work);
                 Wake::Again(limit_ms)
             }
@@ -153,7 +154,7 @@ impl<R: Relay, M: Meter> CoreDesk<R, M> {
     }
 
     /// Carries a piece out and tells the mainframe, which gives what comes next.
-    #[inline(always)]
+    #[inline(never)]
     fn carry(&mut self, piece: Work<M>) -> Option<Work<M>>
         ensures { IsCarried self.old (piece_seen piece) (work_seen result) self.new }
     {
@@ -162,17 +163,23 @@ impl<R: Relay, M: Meter> CoreDesk<R, M> {
         work
     }
 
-    /// Asks the mainframe what a session asks. The work that its scan awaits now is left in `work`.
+    /// Asks the mainframe what a session asks. Its answer is left in `answer`, and the work that its scan awaits now in
+    /// `work`.
     #[inline(always)]
-    fn tell_asked(&mut self, ask: SessionAsk, work: &mut Option<Work<M>>) -> SessionAnswer
+    fn tell_asked(
+        &mut self,
+        ask: SessionAsk,
+        answer: &mut SessionAnswer,
+        work: &mut Option<Work<M>>,
+    )
         requires empty { work.old ≡ None }
         ensures step { (failed : Bool)
-            × Step self.old.panel (AskSession ask) failed (SaysSession result (work_seen work.new)) self.new.panel }
+            × Step self.old.panel (AskSession ask) failed (SaysSession answer.new (work_seen work.new)) self.new.panel }
         ensures work { self.new.work ≡ self.old.work }
         ensures room { self.new.room ≡ self.old.room }
         ensures available { self.new.available ≡ self.old.available }
     {
-        self.core.ask(self.alloc, ask, work)
+        self.core.ask(self.alloc, ask, answer, work);
     }
 
     /// Follows who joins and who leaves.
@@ -204,14 +211,19 @@ impl<R: Relay, M: Meter> Desk for CoreDesk<R, M> {
 
     ghost passes = { CorePasses };
 
-    #[inline(always)]
     fn ask(&mut self, ask: SessionAsk) -> SessionAnswer {
+        let mut answer = SessionAnswer::Stranger;
+        self.ask_into(ask, &mut answer);
+        answer
+    }
+
+    #[inline(always)]
+    fn ask_into(&mut self, ask: SessionAsk, answer: &mut SessionAnswer) {
         let mut work = None;
         let seating = seating_of(&ask);
-        let answer = self.tell_asked(ask, &mut work);
-        self.follow(seating, &answer);
+        self.tell_asked(ask, answer, &mut work);
+        self.follow(seating, answer);
         self.keep(work);
-        answer
     }
 
     fn holds(&self, ask: &SessionAsk) -> bool {

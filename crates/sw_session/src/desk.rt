@@ -36,6 +36,14 @@ pub trait Desk {
         ensures passes { passes self.old (Asked ask result) self.new }
         ensures back { HandsBackAsk ask result };
 
+    /// Answers an ask as `ask` does, and leaves the answer where the caller looks.
+    fn ask_into(&mut self, ask: SessionAsk, answer: &mut SessionAnswer)
+        ensures passes { passes self.old (Asked ask answer.new) self.new }
+        ensures back { HandsBackAsk ask answer.new }
+    {
+        *answer = self.ask(ask);
+    }
+
     /// Whether an ask that was held would be held again now, with nothing changed. A desk may answer no at any time.
     fn holds(&self, ask: &SessionAsk) -> bool
         ensures { result ≡ true → passes self.now (Asked ask.now (Hold ask.now)) self.now }

@@ -9,11 +9,12 @@ ghost use Rattle.sw_session.specs.Macros.{Removes, ActsOnMacros};
 
 use std::alloc::{AllocError, Global};
 use sw_base::{ScpiError, Sequence, print_number};
+use sw_core::AnswerText;
 use sw_lex::{AllMacros, Definition, MacroCommand};
 use sw_macro::Macros;
 
 /// What a command comes to: its answer, if it has one, or its refusal.
-pub type Outcome = Result<Option<Sequence<u8>>, ScpiError>;
+pub type Outcome = Result<Option<AnswerText>, ScpiError>;
 
 /// What a command of all macros does.
 pub fn act_on_all(alloc: Global, macros: &mut Macros, ask: AllMacros) -> Outcome
@@ -69,14 +70,14 @@ fn tell_body(alloc: Global, macros: &Macros, label: &[u8]) -> Outcome
     ensures { TellsBody label.now macros.now result }
 {
     let body = macros.body(label)?;
-    Ok(Some(block(alloc, body)?))
+    Ok(Some(AnswerText::bytes(block(alloc, body)?)))
 }
 
 /// `*LMC?`
 fn tell_labels(alloc: Global, macros: &Macros) -> Outcome
     ensures { TellsMacroText (labels_text (labels macros.now.macros)) result }
 {
-    Ok(Some(labels_text(alloc, macros)?))
+    Ok(Some(AnswerText::bytes(labels_text(alloc, macros)?)))
 }
 
 /// `*EMC?`
@@ -84,7 +85,8 @@ fn tell_enabled(alloc: Global, macros: &Macros) -> Outcome
     ensures { TellsMacroText (yes_or_no macros.now.on) result }
 {
     let flag = if macros.enabled() { b'1' } else { b'0' };
-    Ok(Some(Sequence::new(Vec::from_slice(alloc, &[flag])?)))
+    let text = Vec::from_slice(alloc, &[flag])?;
+    Ok(Some(AnswerText::bytes(Sequence::new(text))))
 }
 
 /// A definite block of these bytes (IEEE 488.2, 8.7.9).

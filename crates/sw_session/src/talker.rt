@@ -56,16 +56,27 @@ impl Talker {
             text.now result.items (state desk.new self.new.macros) }
         ensures same { self.new.sid ≡ self.old.sid }
     {
+        let mut answers = Vec::new(self.alloc);
+        self.message_into(text, desk, &mut answers);
+        answers
+    }
+
+    /// Talks over one program message as `message` does, and leaves the answers in `out` in place of what was there.
+    /// Its memory is used again.
+    pub fn message_into<D: Desk>(&mut self, text: &[u8], desk: &mut D, out: &mut Vec<u8>)
+        ensures talked { Talked D.passes self.old.sid (state desk.old self.old.macros)
+            text.now out.new.items (state desk.new self.new.macros) }
+        ensures same { self.new.sid ≡ self.old.sid }
+    {
+        out.clear();
         let text = without_line_feed(text);
         if text.len() > MESSAGE_BYTES {
             drop(queue(desk, self.sid, ScpiError::InputBufferOverrun));
-            return Vec::new(self.alloc);
+            return;
         }
-        let mut out = Vec::new(self.alloc);
         let mut path = Path::root();
-        match self.talk::<ByExpansion, D>(desk, text, &mut path, &mut out) {
-            AfterUnit::Ends => Vec::new(self.alloc),
-            _ => out,
+        if let AfterUnit::Ends = self.talk::<ByExpansion, D>(desk, text, &mut path, out) {
+            out.clear();
         }
     }
 
@@ -179,8 +190,9 @@ impl Talker {
         ensures same { self.new.sid ≡ self.old.sid }
     {
         let answered = has_answers(out);
-        let answer = ask_command(desk, self.sid, command, answered);
-        conclude(desk, self.sid, answer, out)
+        let mut answer = SessionAnswer::Stranger;
+        ask_command(desk, self.sid, command, answered, &mut answer);
+        conclude(desk, self.sid, &mut answer, out)
     }
 
     /// Serves a unit that is this command, one of the session's own.
@@ -202,7 +214,8 @@ impl Talker {
             command,
             answered,
         );
-        conclude(desk, self.sid, answer, out)
+        let mut answer = answer;
+        conclude(desk, self.sid, &mut answer, out)
     }
 
     /// Serves a unit that is refused by this error.
@@ -219,8 +232,8 @@ impl Talker {
             (λ s s'. ServesUnit self.old.sid (Err error) s result s') }
         ensures same { self.new.sid ≡ self.old.sid }
     {
-        let answer = queue(desk, self.sid, error);
-        conclude(desk, self.sid, answer, out)
+        let mut answer = queue(desk, self.sid, error);
+        conclude(desk, self.sid, &mut answer, out)
     }
 }
 
@@ -324,20 +337,27 @@ fn has_answers(out: &[u8]) -> bool
     !out.is_empty()
 }
 
-/// Adds a unit's answer to those that are written. Where there is no room or no memory for it, it is dropped and that
-/// error queued.
+/// Adds a unit's answer to those that are written, and takes its text out. Where there is no room or no memory for it,
+/// it is dropped and that error queued.
 #[inline(always)]
-fn conclude<D: Desk>(desk: &mut D, sid: Sid, answer: SessionAnswer, out: &mut Vec<u8>) -> AfterUnit
-    ensures { (path : Nodes) (macros : Table) → ConcludesLine D.passes sid answer
+fn conclude<D: Desk>(
+    desk: &mut D,
+    sid: Sid,
+    answer: &mut SessionAnswer,
+    out: &mut Vec<u8>,
+) -> AfterUnit
+    ensures { (path : Nodes) (macros : Table) → ConcludesLine D.passes sid answer.old
         (talker_at desk.old path macros out.old.items) result (talker_at desk.new path macros out.new.items) }
 {
     match answer {
-        SessionAnswer::Done(None) => AfterUnit::Goes,
-        SessionAnswer::Done(Some(text)) => match join(out, text) {
-            Ok(()) => AfterUnit::Goes,
-            Err(_) => go_on(queue(desk, sid, ScpiError::OutOfMemory)),
+        SessionAnswer::Done(told) => match told.take() {
+            None => AfterUnit::Goes,
+            Some(text) => match join(out, text) {
+                Ok(()) => AfterUnit::Goes,
+                Err(_) => go_on(queue(desk, sid, ScpiError::OutOfMemory)),
+            },
         },
-        answer => go_on(answer),
+        answer => after_unit(answer),
     }
 }
 

@@ -3,7 +3,7 @@
 use std::alloc::Global;
 use std::io::{self, ErrorKind, Read, Write};
 use sw_base::Sequence;
-use sw_core::{SessionAnswer, SessionAsk, Sid};
+use sw_core::{AnswerText, SessionAnswer, SessionAsk, Sid};
 use sw_session::{Channel, Desk, Memory, ServeFault, Source, TURNS, View, Wake, serve_channel};
 
 /// A desk with one session, whose client takes messages of 27 bytes. It answers each command with its identity, and
@@ -30,9 +30,9 @@ impl Station {
         }
     }
 
-    fn identity(&self) -> Option<Sequence<u8>> {
+    fn identity(&self) -> Option<AnswerText> {
         match Vec::from_slice(self.alloc, b"OPENBENCH,SWM8,0,1.0") {
-            Ok(text) => Some(Sequence::new(text)),
+            Ok(text) => Some(AnswerText::bytes(Sequence::new(text))),
             Err(_) => None,
         }
     }

@@ -5,10 +5,10 @@
 //! its drop would be written out for each of its variants.
 
 use std::alloc::Global;
-use sw_base::ScpiError;
+use sw_base::{ScpiError, print_number};
 use sw_cage::{EjectRefusal, InstallRefusal, Job, Ticket};
 use sw_card::{Card, Meter, Relay};
-use sw_core::{Answer, Ask, Core, SessionAnswer, SessionAsk, Sid, Work};
+use sw_core::{Answer, AnswerForm, Ask, Core, SessionAnswer, SessionAsk, Sid, Work};
 use sw_lex::{Command, Elements, Path, next_unit, resolve};
 
 /// Asks the core.
@@ -231,10 +231,25 @@ fn is_done(answer: &Option<SessionAnswer>) -> bool {
 }
 
 /// Whether the answer is this text.
-fn is_text(answer: &Option<SessionAnswer>, text: &[u8]) -> bool {
+fn is_text(answer: Option<SessionAnswer>, text: &[u8]) -> bool {
     match answer {
-        Some(SessionAnswer::Done(Some(told))) => told.as_slice() == text,
-        _ => false,
+        Some(SessionAnswer::Done(Some(told))) => is_written(told.into_form(), text),
+        other => {
+            drop(other);
+            false
+        }
+    }
+}
+
+/// Whether an answer of this form is this text.
+fn is_written(form: AnswerForm, text: &[u8]) -> bool {
+    match form {
+        AnswerForm::Bytes(bytes) => bytes.as_slice() == text,
+        AnswerForm::Number(n) => {
+            let mut buffer = [0; 32];
+            let end = print_number(n, &mut buffer);
+            &buffer[..end] == text
+        }
     }
 }
 
@@ -345,9 +360,7 @@ pub fn tells<R: Relay, M: Meter>(
     wanted: &[u8],
 ) -> bool {
     let answer = unit(alloc, core, sid, text);
-    let is_text = is_text(&answer, wanted);
-    drop(answer);
-    is_text
+    is_text(answer, wanted)
 }
 
 /// Whether the unit is refused by this error.

@@ -7,7 +7,7 @@ use std::process::Abort;
 use std::test::Fail;
 use sw_base::{Chan, ScpiError, Sequence};
 use sw_card::Card;
-use sw_core::{Core, SessionAnswer, SessionAsk, Sid};
+use sw_core::{AnswerText, Core, SessionAnswer, SessionAsk, Sid};
 use sw_kinds::{Mux, SimDriver, SimSource, Volt};
 use sw_lex::{Command, PlainQuery};
 use sw_session::{CoreDesk, Desk, Talker, View, Wake};
@@ -75,7 +75,7 @@ impl Desk for Canned {
                     return SessionAnswer::Hold(SessionAsk::Unit(sid, command, answered));
                 }
                 match self.unit(command, answered) {
-                    Ok(text) => SessionAnswer::Done(Some(text)),
+                    Ok(text) => SessionAnswer::Done(Some(AnswerText::bytes(text))),
                     Err(error) => SessionAnswer::Refused(error),
                 }
             }

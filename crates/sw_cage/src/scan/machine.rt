@@ -1,6 +1,6 @@
 //! What a running scan does between two things that it awaits.
 
-ghost use Rattle.std.specs.Prelude.{◌≡◌, ◌+◌, ◌-◌, ◌≤◌, ◌∷◌, [], true, false, is_some, OnOk, OnErr, Some, None};
+ghost use Rattle.std.specs.Prelude.{◌≡◌, ◌+◌, ◌-◌, ◌≤◌, ◌∷◌, [], true, is_some, OnOk, OnErr, Some, None};
 ghost use Rattle.std.specs.Prelude.{slice_set, drop};
 ghost use Rattle.std.proofs.Common.{inr};
 ghost use Rattle.sw_base.specs.Limits.{most_slots};
@@ -9,11 +9,9 @@ ghost use Rattle.sw_card.specs.Account.{of_meter};
 ghost use Rattle.sw_cage.specs.Accounts.{accounts_of, layout_of, is_closed};
 ghost use Rattle.sw_cage.specs.Cards.{meters_of, job_card, KeepsMeters};
 ghost use Rattle.sw_trigger.specs.Agenda.{Close, Open};
-ghost use Rattle.sw_verify.specs.Sound.{CanCloseOne, CanCloseEach, CanOpenEach};
-ghost use Rattle.sw_cage.specs.Change.{Sets};
+ghost use Rattle.sw_verify.specs.Sound.{CanCloseEach, CanOpenEach};
 ghost use Rattle.sw_cage.specs.Cage.{ScanSeen};
 ghost use Rattle.sw_cage.specs.Advance.{moves_from, next_place, awaits};
-ghost use Rattle.sw_cage.specs.Steps.{move_item};
 ghost use Rattle.sw_cage.specs.Moves.{MayMove, MayGoOn, RelayCallFailed};
 ghost use Rattle.sw_cage.specs.TakenSeen.{taken_seen};
 ghost use Rattle.sw_cage.specs.Outcome.{Moved, IsSent, Arrives, AdvancesOrFails};
@@ -24,7 +22,6 @@ use crate::scan::steps::Move;
 use crate::scan::tickets::Tickets;
 use crate::slots::Slots;
 use crate::taken::Taken;
-use sw_base::Chan;
 use sw_card::{CardFault, Meter, MeterCard, Relay};
 use sw_channel::Position;
 use sw_trigger::Awaited;
@@ -97,24 +94,13 @@ fn make_moves<R: Relay, M: Meter>(slots: &mut Slots<R, M>, scan: &mut Scan) -> R
     ensures meters { meters_of slots.new ≡ meters_of slots.old }
 {
     while let Some(next) = scan.next_move() {
-        make_move(slots, next)?;
+        match next {
+            Move::Open(position) => open_each(slots, &position)?,
+            Move::Close(position) => close_each(slots, &position)?,
+        }
         scan.go_past();
     }
     Ok(())
-}
-
-#[inline(always)]
-fn make_move<R: Relay, M: Meter>(slots: &mut Slots<R, M>, next: Move) -> Result<(), CardFault>
-    requires { MayMove (layout_of (accounts_of slots.old)) (is_closed (accounts_of slots.old))
-        (move_item next ∷ []) }
-    ensures ok { OnOk result (Moved (accounts_of slots.old) (move_item next ∷ []) (accounts_of slots.new)) }
-    ensures err { OnErr result (RelayCallFailed (accounts_of slots.old) (accounts_of slots.new)) }
-    ensures meters { meters_of slots.new ≡ meters_of slots.old }
-{
-    match next {
-        Move::Open(position) => open_each(slots, &position),
-        Move::Close(position) => close_each(slots, &position),
-    }
 }
 
 /// Opens the channels of a position, in order. It stops at the first fault.
@@ -129,7 +115,8 @@ fn open_each<R: Relay, M: Meter>(
     ensures meters { meters_of slots.new ≡ meters_of slots.old }
 {
     for chan in position.as_slice() {
-        open_one(slots, *chan)?;
+        slots.stay_safe();
+        slots.open(*chan)?;
     }
     Ok(())
 }
@@ -146,32 +133,9 @@ fn close_each<R: Relay, M: Meter>(
     ensures meters { meters_of slots.new ≡ meters_of slots.old }
 {
     for chan in position.as_slice() {
-        close_one(slots, *chan)?;
+        slots.close(*chan)?;
     }
     Ok(())
-}
-
-/// Opens a channel that is closed.
-#[inline(always)]
-fn open_one<R: Relay, M: Meter>(slots: &mut Slots<R, M>, chan: Chan) -> Result<(), CardFault>
-    requires { is_closed (accounts_of slots.old) chan ≡ true }
-    ensures ok { OnOk result (Sets (accounts_of slots.old) (chan ∷ []) false (accounts_of slots.new)) }
-    ensures err { OnErr result (RelayCallFailed (accounts_of slots.old) (accounts_of slots.new)) }
-    ensures meters { meters_of slots.new ≡ meters_of slots.old }
-{
-    slots.stay_safe();
-    slots.open(chan)
-}
-
-/// Closes a channel that may be closed.
-#[inline(always)]
-fn close_one<R: Relay, M: Meter>(slots: &mut Slots<R, M>, chan: Chan) -> Result<(), CardFault>
-    requires { CanCloseOne (layout_of (accounts_of slots.old)) (is_closed (accounts_of slots.old)) chan }
-    ensures ok { OnOk result (Sets (accounts_of slots.old) (chan ∷ []) true (accounts_of slots.new)) }
-    ensures err { OnErr result (RelayCallFailed (accounts_of slots.old) (accounts_of slots.new)) }
-    ensures meters { meters_of slots.new ≡ meters_of slots.old }
-{
-    slots.close(chan)
 }
 
 /// What the scan awaits where it stands; for a reading its meter goes out. A scan that is over leaves `None`.

@@ -3,7 +3,7 @@
 ghost use Rattle.std.specs.Prelude.{◌≡◌, ℕ, ◌≤◌, length, true, false, None, Some, OnOk, OnErr, IfOk, ◌↔◌, IsTrue};
 ghost use Rattle.std.proofs.Common.{inr};
 ghost use Rattle.sw_base.specs.Limits.{most_slots, most_channels};
-ghost use Rattle.sw_base.specs.Layout.{contents_have, contents_group, contents_are_meter};
+ghost use Rattle.sw_base.specs.Layout.{contents_have, contents_are_meter};
 ghost use Rattle.sw_card.specs.Account.{closed_at, is_meter, of_meter, at_rest};
 ghost use Rattle.sw_cage.specs.Accounts.{accounts_of, option_account, slot_contents, option_closed, option_set};
 ghost use Rattle.sw_cage.specs.Accounts.{option_rest, OptionWellFormed};
@@ -57,6 +57,16 @@ impl<R: Relay, M: Meter> CageSlot<R, M> {
         CageSlot {
             card: Some(card),
             closed,
+        }
+    }
+
+    /// A slot with this meter, which has no channels to ask for.
+    pub(super) fn with_meter(meter: MeterCard<M>) -> Self
+        ensures { result ≡ Some (inr meter.0, of_meter meter.1) }
+    {
+        CageSlot {
+            card: Some(Card::of_meter(meter)),
+            closed: Mask::new(),
         }
     }
 
@@ -209,18 +219,6 @@ pub(super) fn closed_in<R: Relay, M: Meter>(slots: &[CageSlot<R, M>], chan: Chan
 {
     let slot = &slots[chan.slot() as usize - 1];
     slot.closed.has(chan.ch())
-}
-
-/// The group of the channel of the card in the slot, which the card has.
-#[inline(always)]
-pub(super) fn group_in<R: Relay, M: Meter>(slot: &CageSlot<R, M>, ch: u8) -> u8
-    requires { contents_have (slot_contents (option_account slot.now)) ch ≡ true }
-    ensures { result ≡ contents_group (slot_contents (option_account slot.now)) ch }
-{
-    match &slot.card {
-        Some(card) => card.group(ch),
-        None => unreachable!(),
-    }
 }
 
 /// Takes the meter out of the slot.

@@ -52,7 +52,7 @@ returns-then-not-rest-clause-err g c turns =
       keeps = c.look-length.ensures.keeps;
       stops = (
         c.in_default.ensures.ok,
-        (c.message-told.new.desk, subst (λ (b : Bool). WaitsOut c.message-told.new.desk b c.rest.new.self) vain c.rest.ensures.rests),
+        (c.message_into.new.desk, subst (λ (b : Bool). WaitsOut c.message_into.new.desk b c.rest.new.self) vain c.rest.ensures.rests),
       );
     }
 
@@ -65,9 +65,9 @@ returns-in-Err-gather-clause-err g c turns =
     (g.S.LineSource.shows c.look-length.new.self c.look-length.result)
     shows c.look-length.ensures.keeps c.look-length.ensures.shown c.take.ensures.taken in
     let rested : c.rest.result ≡ true = search rules in
-    let answered = line_rested c.loop-at_hand.invariant.sid c.deref.ensures.value c.message-told.ensures.talked c.rest.ensures.rests rested in
-    let next = stand (state c.rest.new.self c.message-told.new.self.macros) c.take.new.self c.loop-at_hand.writer
-    (c.loop-at_hand.unwritten.items ++ c.message-told.result.items) turns in
+    let answered = line_rested c.loop-at_hand.invariant.sid c.deref.ensures.value c.message_into.ensures.talked c.rest.ensures.rests rested in
+    let next = stand (state c.rest.new.self c.message_into.new.self.macros) c.take.new.self c.loop-at_hand.writer
+    (c.loop-at_hand.unwritten.items ++ c.message_into.new.out.items) turns in
     let read = stand (state c.loop-at_hand.desk c.loop-at_hand.talker.macros) c.take.new.self c.loop-at_hand.writer c.loop-at_hand.unwritten.items turns in
     let comes = further read next (c.loop-at_hand.invariant.in_turn turns) (inl (record {
       moves = unasked-two g.S.LineSource.unasked _ c.look-length.new.self _ c.look-length.ensures.unasked c.take.ensures.unasked;
@@ -85,7 +85,7 @@ returns-in-Err-gather-clause-err g c turns =
       moves = unasked-none g.S.LineSource.unasked _;
       keeps = keeps-same _;
       stops = stops-output g.W.Write.contents c.in-Err-gather.fault c.loop-at_hand.writer c.gather.new.writer
-          (c.loop-at_hand.unwritten.items ++ c.message-told.result.items) c.rest.new.self (cc (c.in-Err-gather.ensures.output)) part;
+          (c.loop-at_hand.unwritten.items ++ c.message_into.new.out.items) c.rest.new.self (cc (c.in-Err-gather.ensures.output)) part;
     }
 
 pub loop-at_hand-preserved : goal.loop-at_hand-preserved
@@ -97,13 +97,13 @@ loop-at_hand-preserved g c =
     (g.S.LineSource.shows c.look-length.new.self c.look-length.result)
     shows c.look-length.ensures.keeps c.look-length.ensures.shown c.take.ensures.taken in
     let rested : c.rest.result ≡ true = search rules in
-    let answered = line_rested c.loop-at_hand.invariant.sid c.deref.ensures.value c.message-told.ensures.talked c.rest.ensures.rests rested in
+    let answered = line_rested c.loop-at_hand.invariant.sid c.deref.ensures.value c.message_into.ensures.talked c.rest.ensures.rests rested in
     let wrote = subst (λ (b : List ℕ). Gathers (g.W.Write.contents c.loop-at_hand.writer) (c.loop-at_hand.unwritten.items ++ b)
     (g.W.Write.contents c.gather.new.writer) c.gather.new.unwritten.items) c.deref-in-loop-at_hand.ensures.value c.in_default-gather.ensures.ok in
     record {
-      sid = c.message-told.ensures.same ∙ c.loop-at_hand.invariant.sid;
+      sid = c.message_into.ensures.same ∙ c.loop-at_hand.invariant.sid;
       in_turn = λ turns.
-          let next = stand (state c.rest.new.self c.message-told.new.self.macros) c.take.new.self c.gather.new.writer c.gather.new.unwritten.items turns in
+          let next = stand (state c.rest.new.self c.message_into.new.self.macros) c.take.new.self c.gather.new.writer c.gather.new.unwritten.items turns in
           let read = stand (state c.loop-at_hand.desk c.loop-at_hand.talker.macros) c.take.new.self c.loop-at_hand.writer
           c.loop-at_hand.unwritten.items turns in
           further read next (c.loop-at_hand.invariant.in_turn turns) (inl (record {

@@ -107,7 +107,7 @@ returns-then-not-rest-clause-turns g c =
       c.read_line.new.turns,
       asks-written c.read_line.new.turns c.read_line.new.source c.write_out.new.writer hand c.in_default-write_out.ensures.ok
           c.in_default-read_line.ensures.turns,
-      λ e. inr (c.message-told.new.desk, subst (λ (b : Bool). WaitsOut c.message-told.new.desk b c.rest.new.self) vain c.rest.ensures.rests),
+      λ e. inr (c.message_into.new.desk, subst (λ (b : Bool). WaitsOut c.message_into.new.desk b c.rest.new.self) vain c.rest.ensures.rests),
     )
 
 -- the answer can't be written
@@ -120,12 +120,12 @@ returns-in-Err-gather-clause-err g c =
       eqb-false (vec_len c.read_line.new.line) 0 (sym c.is_empty.ensures ∙ c.if-is_empty.false),
     ) in
     let rested : c.rest.result ≡ true = search rules in
-    let answered = line_rested (c.answer_at_hand.ensures.same ∙ c.loop-turns.invariant.sid) c.deref.ensures.value c.message-told.ensures.talked
+    let answered = line_rested (c.answer_at_hand.ensures.same ∙ c.loop-turns.invariant.sid) c.deref.ensures.value c.message_into.ensures.talked
     c.rest.ensures.rests rested in
     let read = stand (state c.answer_at_hand.new.desk c.answer_at_hand.new.talker.macros) c.read_line.new.source c.write_out.new.writer
     c.write_out.new.unwritten.items c.read_line.new.turns in
-    let next = stand (state c.rest.new.self c.message-told.new.self.macros) c.read_line.new.source c.write_out.new.writer
-    (c.write_out.new.unwritten.items ++ c.message-told.result.items) c.read_line.new.turns in
+    let next = stand (state c.rest.new.self c.message_into.new.self.macros) c.read_line.new.source c.write_out.new.writer
+    (c.write_out.new.unwritten.items ++ c.message_into.new.out.items) c.read_line.new.turns in
     let comes = further-asked read next hand c.in_default-write_out.ensures.ok c.in_default-write_out.ensures.none c.in_default-read_line.ensures.turns
     c.in_default-read_line.ensures.kept (λ none. absurd (omega (arith, some, ap length none))) c.in_default-read_line.ensures.rest answered
     (gathers-none _ _) refl refl in
@@ -142,12 +142,12 @@ returns-in-Err-gather-clause-turns g c =
       eqb-false (vec_len c.read_line.new.line) 0 (sym c.is_empty.ensures ∙ c.if-is_empty.false),
     ) in
     let rested : c.rest.result ≡ true = search rules in
-    let answered = line_rested (c.answer_at_hand.ensures.same ∙ c.loop-turns.invariant.sid) c.deref.ensures.value c.message-told.ensures.talked
+    let answered = line_rested (c.answer_at_hand.ensures.same ∙ c.loop-turns.invariant.sid) c.deref.ensures.value c.message_into.ensures.talked
     c.rest.ensures.rests rested in
     let read = stand (state c.answer_at_hand.new.desk c.answer_at_hand.new.talker.macros) c.read_line.new.source c.write_out.new.writer
     c.write_out.new.unwritten.items c.read_line.new.turns in
-    let next = stand (state c.rest.new.self c.message-told.new.self.macros) c.read_line.new.source c.write_out.new.writer
-    (c.write_out.new.unwritten.items ++ c.message-told.result.items) c.read_line.new.turns in
+    let next = stand (state c.rest.new.self c.message_into.new.self.macros) c.read_line.new.source c.write_out.new.writer
+    (c.write_out.new.unwritten.items ++ c.message_into.new.out.items) c.read_line.new.turns in
     let comes = further-asked read next hand c.in_default-write_out.ensures.ok c.in_default-write_out.ensures.none c.in_default-read_line.ensures.turns
     c.in_default-read_line.ensures.kept (λ none. absurd (omega (arith, some, ap length none))) c.in_default-read_line.ensures.rest answered
     (gathers-none _ _) refl refl in
@@ -165,16 +165,16 @@ loop-turns-preserved g c =
       eqb-false (vec_len c.read_line.new.line) 0 (sym c.is_empty.ensures ∙ c.if-is_empty.false),
     ) in
     let rested : c.rest.result ≡ true = search rules in
-    let answered = line_rested (c.answer_at_hand.ensures.same ∙ c.loop-turns.invariant.sid) c.deref.ensures.value c.message-told.ensures.talked
+    let answered = line_rested (c.answer_at_hand.ensures.same ∙ c.loop-turns.invariant.sid) c.deref.ensures.value c.message_into.ensures.talked
     c.rest.ensures.rests rested in
     let read = stand (state c.answer_at_hand.new.desk c.answer_at_hand.new.talker.macros) c.read_line.new.source c.write_out.new.writer
     c.write_out.new.unwritten.items c.read_line.new.turns in
     let wrote = subst (λ (b : List ℕ). Gathers (g.W.Write.contents c.write_out.new.writer) (c.write_out.new.unwritten.items ++ b)
     (g.W.Write.contents c.gather.new.writer) c.gather.new.unwritten.items) c.deref-in-loop-turns.ensures.value c.in_default-gather.ensures.ok in
-    let next = stand (state c.rest.new.self c.message-told.new.self.macros) c.read_line.new.source c.gather.new.writer c.gather.new.unwritten.items
+    let next = stand (state c.rest.new.self c.message_into.new.self.macros) c.read_line.new.source c.gather.new.writer c.gather.new.unwritten.items
     c.read_line.new.turns in
     record {
-      sid = c.message-told.ensures.same ∙ c.answer_at_hand.ensures.same ∙ c.loop-turns.invariant.sid;
+      sid = c.message_into.ensures.same ∙ c.answer_at_hand.ensures.same ∙ c.loop-turns.invariant.sid;
       in_turn = further-asked read next hand c.in_default-write_out.ensures.ok c.in_default-write_out.ensures.none c.in_default-read_line.ensures.turns
           c.in_default-read_line.ensures.kept (λ none. absurd (omega (arith, some, ap length none))) c.in_default-read_line.ensures.rest answered
           wrote refl refl;

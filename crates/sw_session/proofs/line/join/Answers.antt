@@ -1,14 +1,15 @@
-use Rattle.sw_base.specs.Limits.{most_answer_bytes}
-use Rattle.std.proofs.Common.{◌≡◌, ◌≤◌, length, ◌++◌, ◌∷◌, [], arith}
-use Rattle.std.proofs.lemmas.Grind.{common_steps}
-use Rattle.sw_session.proofs.LinesLemmas.{joins-first, has-room}
+use Rattle.std.proofs.Common.{◌≡◌, ◌∙◌, sym, ap, subst, decimal, List, ℕ}
+use Rattle.std.specs.Prelude.{OnOk}
+use Rattle.sw_core.specs.AnswerText.{form_text}
+use Rattle.sw_session.specs.Talk.{JoinsLine}
 use Rattle.sw_session.proofs.line.join.Goals as goal
 
-pub returns-clause-ok : goal.returns-clause-ok
-returns-clause-ok c = λ answers written.
-    let none : length c.args.out.now.items ≡ 0 = grind (arith, common_steps) in
-    let j = joins-first c.args.out.now.items c.args.text none answers written in
-    let fits : length (c.args.text ++ 10 ∷ []) ≤ most_answer_bytes = grind (arith, common_steps) in (
-      grind (arith, common_steps),
-      has-room (c.args.text ++ 10 ∷ []) _ j fits,
-    )
+pub returns-in-Number-clause-ok : goal.returns-in-Number-clause-ok
+returns-in-Number-clause-ok c =
+    let is : decimal c.in-Number.n ≡ c.args.text = sym (ap form_text c.in-Number.is) ∙ c.into_form.ensures in
+    subst (λ (t : List ℕ). OnOk c.join_number.result (JoinsLine c.args.out.now.items t c.join_number.new.out.items)) is c.join_number.ensures.ok
+
+pub returns-in-Bytes-clause-ok : goal.returns-in-Bytes-clause-ok
+returns-in-Bytes-clause-ok c =
+    let is : c.in-Bytes.text ≡ c.args.text = sym (ap form_text c.in-Bytes.is) ∙ c.into_form.ensures in
+    subst (λ (t : List ℕ). OnOk c.join_bytes.result (JoinsLine c.args.out.now.items t c.join_bytes.new.out.items)) is c.join_bytes.ensures.ok

@@ -10,4 +10,4 @@ pub returns-then-not-session_acts_unnumbered : goal.returns-then-not-session_act
 returns-then-not-session_acts_unnumbered g c =
     let last : (c.args.self.now.events == last_number) ≡ true = grind arith in
     let shut : acts_unnumbered (AskSession c.args.ask) ≡ false = grind arith in
-    rw (c.requires, c.worn.ensures) (worn_step c.args.self.now (AskSession c.args.ask) (SaysSession (Worn c.args.ask) None) last shut refl)
+    rw (c.requires, c.hand_back.ensures) (worn_step c.args.self.now (AskSession c.args.ask) (SaysSession (Worn c.args.ask) None) last shut refl)

@@ -20,6 +20,6 @@ returns g c =
     let heard = ap (λ (s : SessionsSeen). is_clearing s sid.number && is_dropped c.args.ask) (sym sessions) ∙ sym c.drops.ensures ∙ c.if-drops.false in
     let let_in = ap (λ (s : SessionsSeen). not (admits s.locks sid.number) && is_shut_out c.args.ask) (sym sessions) ∙ sym c.shuts_out.ensures
     ∙ c.if-shuts_out.false in
-    subst (λ (o : Option Sid). StepSession o p c.args.ask f c.joined.result (work_seen c.joined.new.work) c.joined.new.self) (sym c.in-Some.is
+    subst (λ (o : Option Sid). StepSession o p c.args.ask f c.joined.new.answer (work_seen c.joined.new.work) c.joined.new.self) (sym c.in-Some.is
     ∙ c.asker.ensures)
-    (admitted p sid c.args.ask f c.joined.result (work_seen c.joined.new.work) c.joined.new.self joined heard let_in c.joined.ensures)
+    (admitted p sid c.args.ask f c.joined.new.answer (work_seen c.joined.new.work) c.joined.new.self joined heard let_in c.joined.ensures)

@@ -1,8 +1,13 @@
-use Rattle.sw_session.proofs.KeepingLemmas.{passes-wait, leaves-all}
+use Rattle.sw_session.proofs.KeepingLemmas.{passes-wait, leaves-all, carried, brought-is}
 use Rattle.sw_session.proofs.core_desk.CoreDesk.wait_for_oldest.Goals as goal
 
 pub returns-in-Some : goal.returns-in-Some
-returns-in-Some g c = record {
-  passes = passes-wait _ _ _ _ _ _ c.args.limit_ms c.in-Some.ensures.some c.carry-work.ensures c.keep.ensures;
-  left = leaves-all c.args.limit_ms;
-}
+returns-in-Some g c =
+    let told = c.carry_out.ensures.step in
+    let step = told.2 in record {
+      passes = passes-wait _ _ _ _ _ _ c.args.limit_ms c.in-Some.ensures.some
+          (carried _ _ _ _ _ _ _ told.1 step.step (brought-is step.answer _ step.brings) c.carry_out.ensures.work
+          c.carry_out.ensures.room c.carry_out.ensures.available)
+          c.keep.ensures;
+      left = leaves-all c.args.limit_ms;
+    }

@@ -8,6 +8,6 @@ returns-clause-serves g c = λ path answers written.
       s.0,
       s.1,
       serve-unit g.D.Desk.passes _ _ _ c.args.self.now.sid (Ok c.args.command) _ path c.args.self.now.macros c.args.self.now.macros answers
-          c.ask_command-answer.result _ s.0
-          (c.has_answers-answered.ensures answers (c.deref.ensures.value ∙ written)) (c.ask_command-answer.ensures c.args.self.now.macros) s.2,
+          c.ask_command.new.answer _ s.0
+          (c.has_answers-answered.ensures answers (c.deref.ensures.value ∙ written)) (c.ask_command.ensures c.args.self.now.macros) s.2,
     )

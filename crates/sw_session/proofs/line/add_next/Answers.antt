@@ -1,7 +1,7 @@
 use Rattle.std.proofs.Common.{arith}
 use Rattle.std.proofs.lemmas.Grind.{common_steps}
 use Rattle.sw_session.proofs.LinesLemmas.{joins-more, has-room}
-use Rattle.sw_session.proofs.line.join_next.Goals as goal
+use Rattle.sw_session.proofs.line.add_next.Goals as goal
 
 pub returns-clause-ok : goal.returns-clause-ok
 returns-clause-ok c = λ answers written.
