@@ -4,7 +4,7 @@ ghost use Rattle.std.specs.Prelude.{◌≡◌, false};
 ghost use Rattle.sw_core.specs.Seen.{ask_seen, answer_seen, AskSession, HandsBack};
 ghost use Rattle.sw_core.specs.Seats.{asker_of, is_dropped, is_shut_out};
 ghost use Rattle.sw_core.specs.Step.{acts_unnumbered, is_held, IsWorn};
-ghost use Rattle.sw_core.specs.declared.ask.SessionAnswer.TheVariants.{Hold, Worn};
+ghost use Rattle.sw_core.specs.declared.ask.SessionAnswer.TheVariants.{Stranger, Broken, Hold, Worn};
 
 use crate::ask::{Answer, Ask, SessionAnswer, SessionAsk, Sid};
 use sw_card::{Meter, Relay};
@@ -103,12 +103,20 @@ pub fn hold(ask: SessionAsk, answer: &mut SessionAnswer)
     *answer = SessionAnswer::Hold(ask);
 }
 
-/// Leaves an answer to an ask of which nothing comes.
+/// Answers one who is no session.
 #[inline(never)]
-pub fn turn_away(told: SessionAnswer, answer: &mut SessionAnswer)
-    ensures { answer.new ≡ told }
+pub fn turn_away(answer: &mut SessionAnswer)
+    ensures { answer.new ≡ Stranger }
 {
-    *answer = told;
+    *answer = SessionAnswer::Stranger;
+}
+
+/// Answers that a clear drops the ask.
+#[inline(never)]
+pub fn break_off(answer: &mut SessionAnswer)
+    ensures { answer.new ≡ Broken }
+{
+    *answer = SessionAnswer::Broken;
 }
 
 /// Leaves an answer where the caller looks.

@@ -19,8 +19,8 @@ ghost use Rattle.sw_lex.specs.declared.command.Command.{Command};
 
 use crate::ask::{Answer, Ask, SessionAnswer, SessionAsk, Sid, Work};
 use crate::asks::{
-    acts_unnumbered, asker, hand_back, hold, is_held, put, session_acts_unnumbered, turn_away,
-    unnumbered,
+    acts_unnumbered, asker, break_off, hand_back, hold, is_held, put, session_acts_unnumbered,
+    turn_away, unnumbered,
 };
 use crate::registers::clear_card_fault;
 use crate::sessions::Sessions;
@@ -236,18 +236,14 @@ impl<R: Relay, M: Meter> Core<R, M> {
             return;
         };
         if !self.sessions.has(sid) {
-            turn_away(SessionAnswer::Stranger, answer);
+            turn_away(answer);
             return;
         }
         if self.sessions.drops(sid, &ask) {
-            turn_away(SessionAnswer::Broken, answer);
+            break_off(answer);
             return;
         }
-        if self.sessions.shuts_out(sid, &ask) {
-            hold(ask, answer);
-            return;
-        }
-        if is_held(&ask) && self.cage.is_running() {
+        if self.sessions.shuts_out(sid, &ask) || (is_held(&ask) && self.cage.is_running()) {
             hold(ask, answer);
             return;
         }

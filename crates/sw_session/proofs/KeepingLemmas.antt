@@ -211,6 +211,9 @@ rests-over old d new n l p = record {
   in_vain = λ is. absurd (cc is);
 }
 
+pub rests-idle : (d : DeskSeen) → d.work ≡ [] → WaitsOut d true d
+rests-idle d none = rests-over d d d 0 refl ([], (none, refl))
+
 pub rests-in-vain : (old new : DeskSeen) (n : ℕ) → n ≡ most_waits → WaitedBy old n new → WaitsOut old false new
 rests-in-vain old new n is l = record {
   waits = n;

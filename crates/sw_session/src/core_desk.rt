@@ -56,7 +56,20 @@ impl<R: Relay, M: Meter> CoreDesk<R, M> {
     }
 
     /// Waits until nothing is outstanding. After 2^64 - 1 waits it gives up and answers false.
+    #[inline(always)]
     pub fn rest(&mut self) -> bool
+        ensures rests { WaitsOut self.old result self.new }
+        ensures rested { result ≡ true → self.new.work ≡ [] }
+    {
+        if self.work.is_empty() {
+            return true;
+        }
+        self.wait_all()
+    }
+
+    /// Waits as `rest` does, for one piece after another.
+    #[inline(never)]
+    fn wait_all(&mut self) -> bool
         ensures rests { WaitsOut self.old result self.new }
         ensures rested { result ≡ true → self.new.work ≡ [] }
     {
@@ -127,7 +140,7 @@ impl<R: Relay, M: Meter> CoreDesk<R, M> {
     }
 
     /// Waits for the oldest piece: carries it out, and keeps what comes next.
-    #[inline(never)]
+    #[inline(always)]
     fn wait_for_oldest(&mut self, limit_ms: Option<u32>) -> Wake
         ensures passes { CorePasses self.old (Waited limit_ms result) self.new }
         ensures left { LeavesOf limit_ms result }
