@@ -18,6 +18,9 @@ use sw_core::{SessionAnswer, Sid};
 use sw_lex::{Command, Elements, Path, RawUnit, next_unit, resolve};
 use sw_macro::Macros;
 
+/// How many bytes of memory a line of answers keeps at most from one message to the next.
+const KEPT_BYTES: usize = 65_536;
+
 /// What a session keeps for its messages.
 #[derive(Drop)]
 pub struct Talker {
@@ -62,12 +65,15 @@ impl Talker {
     }
 
     /// Talks over one program message as `message` does, and leaves the answers in `out` in place of what was there.
-    /// Its memory is used again.
+    /// Its memory is used again, where it is no more than `KEPT_BYTES`.
     pub fn message_into<D: Desk>(&mut self, text: &[u8], desk: &mut D, out: &mut Vec<u8>)
         ensures talked { Talked D.passes self.old.sid (state desk.old self.old.macros)
             text.now out.new.items (state desk.new self.new.macros) }
         ensures same { self.new.sid ≡ self.old.sid }
     {
+        if out.capacity() > KEPT_BYTES {
+            *out = Vec::new(self.alloc);
+        }
         out.clear();
         let text = without_line_feed(text);
         if text.len() > MESSAGE_BYTES {
