@@ -1,6 +1,6 @@
 //! From settings to scan code.
 
-ghost use Rattle.std.specs.Prelude.{◌≡◌, ◌+◌, ◌*◌, ◌<◌, ◌≤◌, [], ◌∷◌, ◌++◌, length, map, IfOk, IfErr, OnOk};
+ghost use Rattle.std.specs.Prelude.{◌≡◌, ◌+◌, ◌*◌, ◌<◌, ◌≤◌, [], ◌∷◌, ◌++◌, length, map, IfOk, IfErr, OnOk, vec_len, vec_capacity};
 ghost use Rattle.sw_base.specs.declared.error.ScpiError.TheVariants.{OutOfMemory};
 ghost use Rattle.sw_trigger.specs.Agenda.{agenda, head_of, pass_of, passes, Awaits};
 ghost use Rattle.sw_trigger.specs.Settings.{layer_of, named};
@@ -33,6 +33,7 @@ pub fn compile(alloc: Global, settings: &Settings) -> Result<Code, ScpiError>
     }
 }
 
+#[inline(always)]
 fn all_steps(alloc: Global, settings: &Settings) -> Result<Vec<Step>, AllocError>
     requires listed { 0 < length settings.now.list }
     ensures steps { IfOk result (λ steps. steps.items ≡ (compiled settings.now).steps) }
@@ -41,7 +42,7 @@ fn all_steps(alloc: Global, settings: &Settings) -> Result<Vec<Step>, AllocError
 {
     let mut steps = Vec::with_capacity(alloc, ROOM)?;
     put_arms(&mut steps, settings, &ARMS, 0)?;
-    steps.push(Step::Halt)?;
+    push(&mut steps, Step::Halt)?;
     Ok(steps)
 }
 
@@ -65,7 +66,7 @@ fn put_arms(
         [arm, inner @ ..] => {
             let start = begin_turns(steps, counter, LayerName::Arm(*arm), settings)?;
             put_arms(steps, settings, inner, counter + 1)?;
-            steps.push(Step::Loop(counter, start))?;
+            push(steps, Step::Loop(counter, start))?;
             Ok(())
         }
     }
@@ -73,6 +74,7 @@ fn put_arms(
 
 /// Begins the turns of an ARM layer, as a loop that counts with this counter, by what each turn awaits before it goes
 /// on inwards. Answers the number of the step with which a turn begins.
+#[inline(always)]
 fn begin_turns(
     steps: &mut Vec<Step>,
     counter: u8,
@@ -88,7 +90,7 @@ fn begin_turns(
     ensures range { settled.IsInRange settings.now }
 {
     let layer = settings.layer(name);
-    steps.push(Step::Set(counter, layer.count))?;
+    push(steps, Step::Set(counter, layer.count))?;
     let start = steps.len() as u16;
     put_head(steps, name, layer)?;
     Ok(start)
@@ -109,9 +111,9 @@ fn put_rounds(steps: &mut Vec<Step>, settings: &Settings) -> Result<(), AllocErr
         return put_passes(steps, settings, count % entries);
     }
     let start = steps.len() as u16 + 1;
-    steps.push(Step::Set(ARM_LAYERS, rounds))?;
+    push(steps, Step::Set(ARM_LAYERS, rounds))?;
     put_passes(steps, settings, entries)?;
-    steps.push(Step::Loop(ARM_LAYERS, start))?;
+    push(steps, Step::Loop(ARM_LAYERS, start))?;
     put_passes(steps, settings, count % entries)
 }
 
@@ -126,6 +128,7 @@ fn put_passes(steps: &mut Vec<Step>, settings: &Settings, count: u32) -> Result<
     Ok(())
 }
 
+#[inline(always)]
 fn put_pass(steps: &mut Vec<Step>, settings: &Settings, k: u32) -> Result<(), AllocError>
     requires listed { 0 < length settings.now.list }
     ensures { OnOk result (steps.new.items ≡ steps.old.items ++ steps_of (pass_of settings.now k)) }
@@ -136,24 +139,46 @@ fn put_pass(steps: &mut Vec<Step>, settings: &Settings, k: u32) -> Result<(), Al
         LayerName::Trigger,
         settings.layer(LayerName::Trigger),
     )?;
-    steps.push(Step::Close(position))?;
-    steps.push(Step::Read)?;
-    steps.push(Step::Open(position))?;
+    push(steps, Step::Close(position))?;
+    push(steps, Step::Read)?;
+    push(steps, Step::Open(position))?;
     Ok(())
 }
 
 /// Adds a layer's wait and pause.
+#[inline(always)]
 fn put_head(steps: &mut Vec<Step>, name: LayerName, layer: Layer) -> Result<(), AllocError>
     ensures head { OnOk result (steps.new.items ≡ steps.old.items ++ steps_of (map Awaits (head_of name layer))) }
     ensures short { OnOk result (length steps.new.items ≤ length steps.old.items + 2) }
 {
     match layer.source {
         Source::Immediate => {}
-        Source::Timer => steps.push(Step::Timer(name, layer.timer_us))?,
-        Source::Bus | Source::External | Source::Hold => steps.push(Step::Wait(name))?,
+        Source::Timer => push(steps, Step::Timer(name, layer.timer_us))?,
+        Source::Bus | Source::External | Source::Hold => push(steps, Step::Wait(name))?,
     }
     if layer.delay_us != 0 {
-        steps.push(Step::Pause(layer.delay_us))?;
+        push(steps, Step::Pause(layer.delay_us))?;
     }
     Ok(())
+}
+
+/// Adds a step, without a call where there is room for it.
+#[inline(always)]
+fn push(steps: &mut Vec<Step>, step: Step) -> Result<(), AllocError>
+    ensures items { OnOk result (steps.new.items ≡ steps.old.items ++ step ∷ []) }
+{
+    if steps.len() == steps.capacity() {
+        make_room(steps)?;
+    }
+    steps.push_reserved(step);
+    Ok(())
+}
+
+/// Makes room for one more step at least.
+#[inline(never)]
+fn make_room(steps: &mut Vec<Step>) -> Result<(), AllocError>
+    ensures items { steps.new.items ≡ steps.old.items }
+    ensures room { OnOk result (vec_len steps.new < vec_capacity steps.new) }
+{
+    steps.reserve(1)
 }

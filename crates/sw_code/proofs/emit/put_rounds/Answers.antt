@@ -39,7 +39,7 @@ returns-clause-steps c =
     let same : step.Set most_arm_layers (k / n) ∷ (body ++ (step.Loop most_arm_layers (c.len.result + 1) ∷ rest))
     ≡ step.Set most_arm_layers (s.trigger.count / length s.list) ∷ (body ++ (step.Loop most_arm_layers (length code + 1) ∷ rest)) = cc in
     on_ok_weaker c.put_passes-3.result
-    (λ e. four_more code c.push.new.self.items c.put_passes-2.new.steps.items c.push-2.new.self.items c.put_passes-3.new.steps.items
+    (λ e. four_more code c.push.new.steps.items c.put_passes-2.new.steps.items c.push-2.new.steps.items c.put_passes-3.new.steps.items
     (step.Set most_arm_layers (k / n) ∷ []) body (step.Loop most_arm_layers (c.len.result + 1) ∷ []) rest
     c.in_ok-push.ensures.items c.in_ok-put_passes.ensures c.in_ok-push-2.ensures.items e
     ∙ ap (λ (l : List Step). code ++ l) (same ∙ looped))
