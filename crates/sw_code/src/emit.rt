@@ -16,8 +16,9 @@ use std::alloc::{AllocError, Global};
 use sw_base::{ARM_LAYERS, ARMS, ArmLayer, LayerName, ScpiError, Source};
 use sw_trigger::{Layer, Settings};
 
-/// For how many steps there is room at first, so that a short code takes memory once.
-const ROOM: usize = 64;
+/// For how many steps there is room at first, so that a short code takes memory once. These are less than the KiB below
+/// which an allocator hands out again at once what was given back.
+const ROOM: usize = 40;
 
 /// The code of a scan: one loop for each ARM layer, and one for whole rounds of the list. `OutOfMemory` comes where the
 /// steps found no room, and no other error.
