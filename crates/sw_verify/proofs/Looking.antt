@@ -185,6 +185,14 @@ module _ (layout : Layout) (closed : List Channel) (steps : List Step) (i : ℕ)
     none_left : drop i steps ≡ []
     none_left = drop_all i steps (omega arith)
 
+-- the end of a loop where no loop is open or the newest row is another
+pub loop_differs : (layout : Layout) (closed : List Channel) (steps : List Step) (i : ℕ) (ledger : Ledger) (rows : List (List Bool))
+    → Progress layout closed steps i ledger rows → (k to : ℕ) → drop i steps ≡ step.Loop k to ∷ drop (i + 1) steps
+    → ((rest : List (List Bool)) → rows ≡ ledger.mine ∷ rest → ⊥) → StopsBy layout LeftClosed steps (is_among closed) none []
+loop_differs layout closed steps i ledger [] p k to e other = loop_alone layout closed steps i ledger [] p k to e refl
+loop_differs layout closed steps i ledger (row ∷ rest) p k to e other =
+    loop_stops layout closed steps i ledger (row ∷ rest) p k to row rest e refl (λ same. other rest (ap (λ (r : List Bool). r ∷ rest) (sym same)))
+
 -- what may not be closed can't be
 barred_not : (layout : Layout) (b : Channels) (c : Channel) (r : Refusal) → CanCloseOne layout b c → IsBarred layout b c r → ⊥
 barred_not layout b c r can barred =
@@ -227,11 +235,6 @@ right_not_stopped layout r (step.Loop k to ∷ steps) b m (t ∷ ss) h s =
     ⊎_elim (λ (x : ((b ≡ t.0) × (m ≡ t.1) → ⊥) × (r ≡ LeftClosed)). x.0 (h.0, h.1))
     (λ (x : (b ≡ t.0) × (m ≡ t.1) × StopsBy layout r steps b m ss). right_not_stopped layout r steps b m ss h.2 x.2) s
 right_not_stopped layout r (step.Halt ∷ steps) b m ss h s = s.0 h
-
--- the first row, and those behind it
-pub popped : (rows rest : List (List Bool)) (row : List Bool) → 0 < length rows → row ≡ get_or rows 0 row → rest ≡ remove rows 0 → rows ≡ row ∷ rest
-popped [] rest row h e f = absurd (omega arith)
-popped (r ∷ rows) rest row h e f = ap (λ (x : List Bool). x ∷ rows) (sym e) ∙ ap (λ (l : List (List Bool)). row ∷ l) (sym f)
 
 pub moved : (layout : Layout) (closed : List Channel) (steps : List Step) (i : ℕ) (ledger ledger' : Ledger) (rows rows' : List (List Bool)) → ledger' ≡ ledger
     → rows' ≡ rows → Progress layout closed steps i ledger rows → Progress layout closed steps i ledger' rows'

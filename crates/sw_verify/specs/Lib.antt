@@ -16,3 +16,4 @@ pub mod Items
 pub mod Course
 pub mod SourcesSeen
 pub mod CourseKept
+pub mod SavedSeen

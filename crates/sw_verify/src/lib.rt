@@ -28,8 +28,10 @@ mod plan;
 mod ready;
 mod refusal;
 mod row;
+mod saved;
 mod snapshot;
 mod sources;
+mod stack;
 mod tally;
 mod verified;
 

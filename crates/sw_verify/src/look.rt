@@ -9,6 +9,7 @@ ghost use Rattle.sw_verify.specs.Ledger.{TellsRow};
 use crate::layout::Layout;
 use crate::ledger::Ledger;
 use crate::refusal::Refusal;
+use crate::saved::SavedRows;
 use std::alloc::{AllocError, Global};
 use sw_base::Chan;
 use sw_code::Step;
@@ -28,16 +29,12 @@ pub fn look(
         StopsBy layout.now r steps.now (is_among closed.now) none [])) }
 {
     let mut ledger = Ledger::new(layout, closed);
-    let mut saved = Vec::new(alloc);
+    let mut saved = SavedRows::new(alloc);
     for i in 0..steps.len() {
         match steps[i] {
-            Step::Set(_, _) => saved.insert(0, ledger.mine.keep(alloc)?)?,
+            Step::Set(_, _) => saved.push(alloc, &ledger.mine)?,
             Step::Loop(_, _) => {
-                if saved.is_empty() {
-                    return Ok(Some(Refusal::LeftClosed));
-                }
-                let before = saved.remove(0);
-                if !ledger.mine.is_as(&before) {
+                if !saved.pop_same(&ledger.mine) {
                     return Ok(Some(Refusal::LeftClosed));
                 }
             }

@@ -5,6 +5,7 @@ ghost use Rattle.sw_code.specs.Range.{most_steps};
 ghost use Rattle.sw_verify.specs.Nest.{fault_in, in_use};
 
 use crate::refusal::Refusal;
+use crate::stack::Stack;
 use std::alloc::{AllocError, Global};
 use sw_code::Step;
 
@@ -21,28 +22,24 @@ pub fn nesting(alloc: Global, steps: &[Step]) -> Result<Option<Refusal>, AllocEr
     requires { length steps.now ≤ most_steps }
     ensures { IfOk result (λ fault. fault ≡ fault_in steps.now 0 []) }
 {
-    let mut frames = Vec::new(alloc);
+    let mut frames = Stack::new(alloc);
     for i in 0..steps.len() {
         match steps[i] {
             Step::Set(counter, count) => {
-                if is_in_use(frames.as_slice(), counter) {
+                if is_in_use(&frames, counter) {
                     return Ok(Some(Refusal::BadNesting));
                 }
                 let start = i as u16 + 1;
-                frames.insert(
-                    0,
-                    Frame {
-                        counter,
-                        count,
-                        start,
-                    },
-                )?;
+                frames.push(Frame {
+                    counter,
+                    count,
+                    start,
+                })?;
             }
             Step::Loop(counter, target) => {
-                if frames.is_empty() {
+                let Some(frame) = frames.pop() else {
                     return Ok(Some(Refusal::BadNesting));
-                }
-                let frame = frames.remove(0);
+                };
                 if counter != frame.counter {
                     return Ok(Some(Refusal::BadNesting));
                 }
@@ -51,7 +48,7 @@ pub fn nesting(alloc: Global, steps: &[Step]) -> Result<Option<Refusal>, AllocEr
                 }
             }
             Step::Halt => {
-                if i + 1 == steps.len() && frames.is_empty() {
+                if i + 1 == steps.len() && frames.as_slice().is_empty() {
                     return Ok(None);
                 }
                 return Ok(Some(Refusal::BadNesting));
@@ -67,7 +64,15 @@ pub fn nesting(alloc: Global, steps: &[Step]) -> Result<Option<Refusal>, AllocEr
     Ok(Some(Refusal::BadNesting))
 }
 
-fn is_in_use(frames: &[Frame], counter: u8) -> bool
+/// Whether one of these loops has the counter.
+#[inline(always)]
+fn is_in_use(frames: &Stack<Frame>, counter: u8) -> bool
+    ensures { result ≡ in_use frames.now counter }
+{
+    has_counter(frames.as_slice(), counter)
+}
+
+fn has_counter(frames: &[Frame], counter: u8) -> bool
     ensures { result ≡ in_use frames.now counter }
 {
     frames.iter().any(|frame| counter == frame.counter)

@@ -4,6 +4,7 @@ ghost use Rattle.std.specs.Prelude.{◌≡◌, ◌≤◌, [], length, IfOk};
 ghost use Rattle.sw_code.specs.Range.{most_steps};
 ghost use Rattle.sw_verify.specs.Nest.{AreLimited, tally, every, is_read};
 
+use crate::stack::Stack;
 use std::alloc::{AllocError, Global};
 use sw_code::Step;
 
@@ -27,14 +28,17 @@ pub fn tally(alloc: Global, steps: &[Step]) -> Result<Counts, AllocError>
         readings: 0,
     };
     let mut turns: u128 = 1;
-    let mut saved = Vec::new(alloc);
+    let mut saved = Stack::new(alloc);
     for i in 0..steps.len() {
         match steps[i] {
             Step::Set(_, count) => {
-                saved.insert(0, turns)?;
+                saved.push(turns)?;
                 turns *= u128::from(count);
             }
-            Step::Loop(_, _) => turns = saved.remove(0),
+            Step::Loop(_, _) => match saved.pop() {
+                Some(outside) => turns = outside,
+                None => unreachable!(),
+            },
             Step::Wait(_) | Step::Timer(_, _) | Step::Pause(_) => counts.bound += turns,
             Step::Read => {
                 counts.bound += turns;

@@ -1,12 +1,12 @@
-use Rattle.std.proofs.Common.{◌≡◌, ◌+◌, ◌∷◌, ℕ, get_or, ⊎_elim, length, ap, sym, ◌∙◌}
+use Rattle.std.proofs.Common.{◌≡◌, ◌+◌, ◌∷◌, ℕ, get_or, ⊎_elim, length, refl, sym, ◌∙◌}
 use Rattle.std.proofs.lemmas.Bool.{both_ways}
 use Rattle.sw_base.specs.declared.terms.LayerName.{LayerName}
 use Rattle.sw_code.specs.declared.code.Step.TheVariants as step
 use Rattle.sw_trigger.proofs.Awaiting.{listed_from_test}
-use Rattle.sw_verify.proofs.Looking.{next_step, popped, after_wait, after_timer, after_pause, after_read, after_set, after_close, close_stops, after_open}
+use Rattle.sw_verify.proofs.Looking.{next_step, after_wait, after_timer, after_pause, after_read, after_set, after_close, close_stops, after_open}
 use Rattle.sw_verify.proofs.Looking.{open_stops, moved}
-use Rattle.sw_verify.proofs.Looking.{loop_stops, after_loop, halt_right, halt_stops}
-use Rattle.sw_verify.proofs.look.look.Goals.{in-Set+in_ok-keep-in-Set+in_ok-insert-in-Set, in-Loop+else-is_empty+else-not-is_as, in-Close+in_default}
+use Rattle.sw_verify.proofs.Looking.{loop_differs, after_loop, halt_right, halt_stops}
+use Rattle.sw_verify.proofs.look.look.Goals.{in-Set+in_ok-push-in-Set, in-Loop+else-not-pop_same, in-Close+in_default}
 use Rattle.sw_verify.proofs.look.look.Goals.{in-Open+in_default-open}
 use Rattle.sw_verify.proofs.look.look.Goals.{in-Wait}
 use Rattle.sw_verify.proofs.look.look.Goals as goal
@@ -16,7 +16,7 @@ returns-in-Err-clause-stops c =
     let steps = c.args.steps.now in
     let i = c.loop-i.i in
     let e = next_step steps i (step.Close c.in-Close.p) _ c.loop-i-test.true c.in-Close.is in
-    close_stops c.args.layout.now c.args.closed.now steps i c.loop-i.ledger c.loop-i.saved.items c.loop-i.invariant c.in-Close.p c.in-Err.wrong e
+    close_stops c.args.layout.now c.args.closed.now steps i c.loop-i.ledger c.loop-i.saved c.loop-i.invariant c.in-Close.p c.in-Err.wrong e
     c.in-Err.ensures.barred
 
 pub returns-in-Err-open-clause-stops : goal.returns-in-Err-open-clause-stops
@@ -24,27 +24,23 @@ returns-in-Err-open-clause-stops c =
     let steps = c.args.steps.now in
     let i = c.loop-i.i in
     let e = next_step steps i (step.Open c.in-Open.p) _ c.loop-i-test.true c.in-Open.is in
-    open_stops c.args.layout.now c.args.closed.now steps i c.loop-i.ledger c.loop-i.saved.items c.loop-i.invariant c.in-Open.p c.in-Err-open.wrong e
+    open_stops c.args.layout.now c.args.closed.now steps i c.loop-i.ledger c.loop-i.saved c.loop-i.invariant c.in-Open.p c.in-Err-open.wrong e
     c.in-Err-open.ensures.refused
 
-pub returns-then-not-is_as-clause-stops : goal.returns-then-not-is_as-clause-stops
-returns-then-not-is_as-clause-stops c =
+pub returns-then-not-pop_same-clause-stops : goal.returns-then-not-pop_same-clause-stops
+returns-then-not-pop_same-clause-stops c =
     let steps = c.args.steps.now in
     let i = c.loop-i.i in
-    let rows = c.loop-i.saved.items in
     let e = next_step steps i (step.Loop c.in-Loop.field-0 c.in-Loop.field-1) _ c.loop-i-test.true c.in-Loop.is in
-    let some = listed_from_test c.is_empty.result _ (length rows) c.is_empty.ensures c.if-is_empty.false (sym c.loop-i.saved.ok.0) in
-    loop_stops c.args.layout.now c.args.closed.now steps i c.loop-i.ledger rows c.loop-i.invariant c.in-Loop.field-0 c.in-Loop.field-1 c.remove-before.result
-    c.remove-before.new.self.items e
-    (popped rows c.remove-before.new.self.items c.remove-before.result some c.remove-before.ensures.value c.remove-before.ensures.items)
-    (λ e. both_ways c.is_as.result c.if-not-is_as.true (c.is_as.ensures.1 e))
+    loop_differs c.args.layout.now c.args.closed.now steps i c.loop-i.ledger c.loop-i.saved c.loop-i.invariant c.in-Loop.field-0 c.in-Loop.field-1 e
+    (c.pop_same.ensures.other c.if-not-pop_same.true)
 
 pub returns-then-is_clear-clause-right : goal.returns-then-is_clear-clause-right
 returns-then-is_clear-clause-right c =
     let steps = c.args.steps.now in
     let i = c.loop-i.i in
     let e = next_step steps i step.Halt _ c.loop-i-test.true c.in-Halt.is in
-    halt_right c.args.layout.now c.args.closed.now steps i c.loop-i.ledger c.loop-i.saved.items c.loop-i.invariant e
+    halt_right c.args.layout.now c.args.closed.now steps i c.loop-i.ledger c.loop-i.saved c.loop-i.invariant e
     (c.is_clear.ensures.0 c.if-is_clear.true)
 
 pub returns-in-Halt-clause-stops : goal.returns-in-Halt-clause-stops
@@ -52,7 +48,7 @@ returns-in-Halt-clause-stops c =
     let steps = c.args.steps.now in
     let i = c.loop-i.i in
     let e = next_step steps i step.Halt _ c.loop-i-test.true c.in-Halt.is in
-    halt_stops c.args.layout.now c.args.closed.now steps i c.loop-i.ledger c.loop-i.saved.items c.loop-i.invariant e (λ d.
+    halt_stops c.args.layout.now c.args.closed.now steps i c.loop-i.ledger c.loop-i.saved c.loop-i.invariant e (λ d.
     both_ways c.is_clear.result c.if-is_clear.false (c.is_clear.ensures.1 d))
 
 pub loop-i-preserved : goal.loop-i-preserved
@@ -62,30 +58,27 @@ loop-i-preserved c =
     let steps = c.args.steps.now in
     let i = c.loop-i.i in
     let ledger = c.loop-i.ledger in
-    let rows = c.loop-i.saved.items in
+    let rows = c.loop-i.saved in
     let p = c.loop-i.invariant in
     let now = c.match-steps-i.ledger in
-    let left = c.match-steps-i.saved.items in
+    let left = c.match-steps-i.saved in
     elim c.match-steps-i.branch [
-      | in-Set+in_ok-keep-in-Set+in_ok-insert-in-Set w ↦
-          moved layout closed steps (i + 1) ledger now (w.in_ok-keep-in-Set.field-0 ∷ rows) left w.ledger-is (ap (λ v. v.items) w.saved-is
-          ∙ w.in_ok-insert-in-Set.ensures.items)
-          (after_set layout closed steps i ledger rows p w.in-Set.field-0 w.in-Set.field-1 w.in_ok-keep-in-Set.field-0 w.in_ok-keep-in-Set.ensures
+      | in-Set+in_ok-push-in-Set w ↦
+          moved layout closed steps (i + 1) ledger now (ledger.mine ∷ rows) left w.ledger-is (w.saved-is ∙ w.in_ok-push-in-Set.ensures)
+          (after_set layout closed steps i ledger rows p w.in-Set.field-0 w.in-Set.field-1 ledger.mine refl
           (next_step steps i (step.Set w.in-Set.field-0 w.in-Set.field-1) _ c.loop-i-test.true w.in-Set.is))
-      | in-Loop+else-is_empty+else-not-is_as w ↦
-          let some = listed_from_test w.is_empty.result _ (length rows) w.is_empty.ensures w.if-is_empty.false (sym c.loop-i.saved.ok.0) in
-          moved layout closed steps (i + 1) ledger now w.remove-before.new.self.items left w.ledger-is (ap (λ v. v.items) w.saved-is)
-          (after_loop layout closed steps i ledger rows p w.in-Loop.field-0 w.in-Loop.field-1 w.remove-before.result w.remove-before.new.self.items
+      | in-Loop+else-not-pop_same w ↦
+          moved layout closed steps (i + 1) ledger now w.pop_same.new.self left w.ledger-is w.saved-is
+          (after_loop layout closed steps i ledger rows p w.in-Loop.field-0 w.in-Loop.field-1 ledger.mine w.pop_same.new.self
           (next_step steps i (step.Loop w.in-Loop.field-0 w.in-Loop.field-1) _ c.loop-i-test.true w.in-Loop.is)
-          (popped rows w.remove-before.new.self.items w.remove-before.result some w.remove-before.ensures.value w.remove-before.ensures.items)
-          (w.is_as.ensures.0 w.if-not-is_as.false))
-      | in-Close+in_default w ↦ moved layout closed steps (i + 1) w.close.new.self now rows left w.ledger-is (ap (λ v. v.items) w.saved-is)
+          (w.pop_same.ensures.same w.if-not-pop_same.false) refl)
+      | in-Close+in_default w ↦ moved layout closed steps (i + 1) w.close.new.self now rows left w.ledger-is w.saved-is
           (after_close layout closed steps i ledger rows p w.in-Close.p w.close.new.self
           (next_step steps i (step.Close w.in-Close.p) _ c.loop-i-test.true w.in-Close.is) w.in_default.ensures.closed)
-      | in-Open+in_default-open w ↦ moved layout closed steps (i + 1) w.open.new.self now rows left w.ledger-is (ap (λ v. v.items) w.saved-is)
+      | in-Open+in_default-open w ↦ moved layout closed steps (i + 1) w.open.new.self now rows left w.ledger-is w.saved-is
           (after_open layout closed steps i ledger rows p w.in-Open.p w.open.new.self
           (next_step steps i (step.Open w.in-Open.p) _ c.loop-i-test.true w.in-Open.is) w.in_default-open.ensures.opened)
-      | in-Wait w ↦ moved layout closed steps (i + 1) ledger now rows left w.ledger-is (ap (λ v. v.items) w.saved-is)
+      | in-Wait w ↦ moved layout closed steps (i + 1) ledger now rows left w.ledger-is w.saved-is
           (⊎_elim (λ (x : (name : LayerName) × (get_or steps i _ ≡ step.Wait name)).
           after_wait layout closed steps i ledger rows p x.0 (next_step steps i (step.Wait x.0) _ c.loop-i-test.true x.1))
           (λ o. ⊎_elim (λ (x : (name : LayerName) × (micros : ℕ) × (get_or steps i _ ≡ step.Timer name micros)).

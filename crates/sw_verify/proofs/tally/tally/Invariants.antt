@@ -5,9 +5,9 @@ use Rattle.sw_verify.proofs.tally.tally.Given as goal
 
 abbrev pub invariant-loop-i : goal.invariant-loop-i
 invariant-loop-i l = record {
-  bound : l.counts.bound + tally every (drop l.i l.steps) l.turns l.saved.items ≡ tally every l.steps 1 [];
-  readings : l.counts.readings + tally is_read (drop l.i l.steps) l.turns l.saved.items ≡ tally is_read l.steps 1 [];
-  limited : AreLimited (drop l.i l.steps) l.turns l.saved.items;
+  bound : l.counts.bound + tally every (drop l.i l.steps) l.turns l.saved ≡ tally every l.steps 1 [];
+  readings : l.counts.readings + tally is_read (drop l.i l.steps) l.turns l.saved ≡ tally is_read l.steps 1 [];
+  limited : AreLimited (drop l.i l.steps) l.turns l.saved;
   turns : Limited l.turns;
   most : (l.counts.bound ≤ l.i * most_turns most_counters) × (l.counts.readings ≤ l.i * most_turns most_counters);
 }
