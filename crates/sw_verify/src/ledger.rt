@@ -25,14 +25,24 @@ pub struct Ledger {
 }
 
 impl Ledger {
-    pub fn new(layout: &Layout, closed: &[Chan]) -> Ledger
-        ensures { Shows layout.now (is_among closed.now) (is_among closed.now) none result }
-    {
+    /// Room for what is closed, where it stays while the verifier looks on.
+    #[inline(always)]
+    pub fn room() -> Ledger {
         Ledger {
-            found: channel_marks(closed),
+            found: Row::new(),
             mine: Row::new(),
-            groups: group_marks(layout, closed),
+            groups: [false; 256],
         }
+    }
+
+    /// Begins with these channels closed, whatever it told before.
+    #[inline(always)]
+    pub fn begin(&mut self, layout: &Layout, closed: &[Chan])
+        ensures { Shows layout.now (is_among closed.now) (is_among closed.now) none self.new }
+    {
+        channel_marks(&mut self.found, closed);
+        self.mine = Row::new();
+        group_marks(&mut self.groups, layout, closed);
     }
 
     /// Closes the channels of a position, in order, where each is there, is open and shares a group with no closed one.

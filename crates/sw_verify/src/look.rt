@@ -28,7 +28,8 @@ pub fn look(
     ensures stops { IfOk result (λ wrong. IfSome wrong (λ r.
         StopsBy layout.now r steps.now (is_among closed.now) none [])) }
 {
-    let mut ledger = Ledger::new(layout, closed);
+    let mut ledger = Ledger::room();
+    ledger.begin(layout, closed);
     let mut saved = SavedRows::new(alloc);
     for i in 0..steps.len() {
         match steps[i] {

@@ -9,29 +9,32 @@ use crate::layout::Layout;
 use crate::row::Row;
 use sw_base::Chan;
 
-pub fn channel_marks(channels: &[Chan]) -> Row
-    ensures marks { ChannelMarks channels.now result }
-    ensures size { length result ≡ channel_places }
+/// Marks these channels and no others.
+#[inline(always)]
+pub fn channel_marks(marks: &mut Row, channels: &[Chan])
+    ensures marks { ChannelMarks channels.now marks.new }
+    ensures size { length marks.new ≡ channel_places }
 {
-    let mut marks = Row::new();
+    *marks = Row::new();
     for c in channels {
         marks.set(place(*c));
     }
-    marks
 }
 
-pub fn group_marks(layout: &Layout, channels: &[Chan]) -> [bool; 256]
-    ensures marks { GroupMarks layout.now channels.now result }
-    ensures size { length result ≡ 256 }
+/// Marks the groups of these channels and no others.
+#[inline(always)]
+pub fn group_marks(marks: &mut [bool; 256], layout: &Layout, channels: &[Chan])
+    ensures marks { GroupMarks layout.now channels.now marks.new }
+    ensures size { length marks.new ≡ 256 }
 {
-    let mut marks = [false; 256];
+    *marks = [false; 256];
     for c in channels {
         marks[usize::from(layout.group(*c))] = true;
     }
-    marks
 }
 
 /// A channel's place: its slot times 100 and its number.
+#[inline(always)]
 pub fn place(c: Chan) -> usize
     ensures place { result ≡ place c }
     ensures channel { IsInChannelRange c }

@@ -64,7 +64,8 @@ fn are_free(layout: &Layout, closed: &[Chan], positions: &[Position]) -> bool
     ensures blocked { result ≡ false
         → Any (λ (p : Joined). (r : Why) × IsBarredAt layout.now (is_among closed.now) p r) positions.now }
 {
-    let mut ledger = Ledger::new(layout, closed);
+    let mut ledger = Ledger::room();
+    ledger.begin(layout, closed);
     for p in positions {
         if let Err(_) = ledger.close(layout, p) {
             return false;

@@ -7,6 +7,6 @@ use Rattle.sw_verify.proofs.marks.channel_marks.Goals as goal
 pub loop-c-init : goal.loop-c-init
 loop-c-init c = record {
   marked = λ k w. let below : place k < channel_places = omega (arith, w.1, w.3) in
-      ap (λ (l : List Bool). get_or l (place k) false) c.new-marks.ensures ∙ get_or-replicate channel_places (place k) false false below;
-  size = ap (λ (l : List Bool). length l) c.new-marks.ensures ∙ length-replicate channel_places false;
+      ap (λ (l : List Bool). get_or l (place k) false) c.new.ensures ∙ get_or-replicate channel_places (place k) false false below;
+  size = ap (λ (l : List Bool). length l) c.new.ensures ∙ length-replicate channel_places false;
 }
