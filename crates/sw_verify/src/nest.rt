@@ -17,12 +17,19 @@ pub struct Frame {
     pub start: u16,
 }
 
+/// What stands in the room of loops that are not open.
+const NO_LOOP: Frame = Frame {
+    counter: 0,
+    count: 0,
+    start: 0,
+};
+
 /// The first fault in the nesting of the loops, if there is one: BadNesting or BadJump.
 pub fn nesting(alloc: Global, steps: &[Step]) -> Result<Option<Refusal>, AllocError>
     requires { length steps.now ≤ most_steps }
     ensures { IfOk result (λ fault. fault ≡ fault_in steps.now 0 []) }
 {
-    let mut frames = Stack::new(alloc);
+    let mut frames = Stack::new(alloc, NO_LOOP);
     for i in 0..steps.len() {
         match steps[i] {
             Step::Set(counter, count) => {
@@ -48,7 +55,7 @@ pub fn nesting(alloc: Global, steps: &[Step]) -> Result<Option<Refusal>, AllocEr
                 }
             }
             Step::Halt => {
-                if i + 1 == steps.len() && frames.as_slice().is_empty() {
+                if i + 1 == steps.len() && frames.pop().is_none() {
                     return Ok(None);
                 }
                 return Ok(Some(Refusal::BadNesting));
@@ -69,7 +76,8 @@ pub fn nesting(alloc: Global, steps: &[Step]) -> Result<Option<Refusal>, AllocEr
 fn is_in_use(frames: &Stack<Frame>, counter: u8) -> bool
     ensures { result ≡ in_use frames.now counter }
 {
-    has_counter(frames.as_slice(), counter)
+    let (few, more) = frames.parts();
+    has_counter(few, counter) || has_counter(more, counter)
 }
 
 fn has_counter(frames: &[Frame], counter: u8) -> bool

@@ -1,33 +1,44 @@
 //! Items of which the newest is taken off first.
 
-ghost use Rattle.std.specs.Prelude.{◌≡◌, ◌<◌, ◌∷◌, [], reverse, IfSome, IfNone, OnOk, vec_len, vec_capacity};
+ghost use Rattle.std.specs.Prelude.{◌≡◌, ◌∷◌, ◌++◌, [], reverse, IfSome, IfNone, OnOk};
 
 use std::alloc::{AllocError, Global};
 use std::marker::Model;
 
+/// How many items take no memory.
+const FEW: usize = 4;
+
 /// A stack. Contracts see the list of its items, the newest first.
 #[derive(Drop)]
-pub struct Stack<T: Drop> {
-    /// The items, the newest last.
-    items: Vec<T>,
+pub struct Stack<T: Copy + Drop> {
+    /// The oldest items, the newest of them last, and what stands behind them.
+    few: [T; FEW],
+    /// How many of these are on it.
+    count: usize,
+    /// The items above them, the newest last.
+    more: Vec<T>,
 }
 
-impl<T: Drop> Model for Stack<T> {
-    ghost use Rattle.std.specs.Prelude.{List, reverse};
+impl<T: Copy + Drop> Model for Stack<T> {
+    ghost use Rattle.std.specs.Prelude.{List, ◌++◌, ◌≤◌, reverse, take};
 
     ghost Value = { List T };
 
-    ghost view = { λ s. reverse s.items.items };
+    ghost view = { λ s. reverse s.more.items ++ reverse (take s.count s.few) };
+
+    ghost invariant = { λ s. s.count ≤ 4 };
 }
 
-impl<T: Drop> Stack<T> {
-    /// Nothing is on it, and it takes no memory yet.
+impl<T: Copy + Drop> Stack<T> {
+    /// Nothing is on it; the item stands in its room.
     #[inline(always)]
-    pub fn new(alloc: Global) -> Self
+    pub fn new(alloc: Global, item: T) -> Self
         ensures { result ≡ [] }
     {
         Stack {
-            items: Vec::new(alloc),
+            few: [item; FEW],
+            count: 0,
+            more: Vec::new(alloc),
         }
     }
 
@@ -36,11 +47,12 @@ impl<T: Drop> Stack<T> {
     pub fn push(&mut self, item: T) -> Result<(), AllocError>
         ensures { OnOk result (self.new ≡ item ∷ self.old) }
     {
-        if self.items.len() == self.items.capacity() {
-            make_room(&mut self.items)?;
+        if self.count < FEW && self.more.is_empty() {
+            self.few[self.count] = item;
+            self.count += 1;
+            return Ok(());
         }
-        self.items.push_reserved(item);
-        Ok(())
+        add(&mut self.more, item)
     }
 
     /// Takes the newest item off.
@@ -49,23 +61,30 @@ impl<T: Drop> Stack<T> {
         ensures some { IfSome result (λ item. self.old ≡ item ∷ self.new) }
         ensures none { IfNone result (self.old ≡ []) }
     {
-        self.items.pop()
+        if !self.more.is_empty() {
+            return self.more.pop();
+        }
+        if self.count == 0 {
+            return None;
+        }
+        self.count -= 1;
+        Some(self.few[self.count])
     }
 
-    /// The items, the oldest first.
+    /// The items in two parts, each with its oldest item first; those of the second are newer.
     #[inline(always)]
-    pub fn as_slice(&self) -> &[T]
-        ensures { reverse result.now ≡ self.now }
+    pub fn parts(&self) -> (&[T], &[T])
+        ensures { reverse result.1.now ++ reverse result.0.now ≡ self.now }
     {
-        self.items.as_slice()
+        (&self.few[..self.count], self.more.as_slice())
     }
 }
 
-/// Makes room for one more item at least.
+/// Adds an item behind these.
 #[inline(never)]
-fn make_room<T>(items: &mut Vec<T>) -> Result<(), AllocError>
-    ensures items { items.new.items ≡ items.old.items }
-    ensures room { OnOk result (vec_len items.new < vec_capacity items.new) }
+fn add<T: Copy + Drop>(items: &mut Vec<T>, item: T) -> Result<(), AllocError>
+    ensures { OnOk result (reverse items.new.items ≡ item ∷ reverse items.old.items) }
 {
-    items.reserve(1)
+    items.push(item)?;
+    Ok(())
 }

@@ -28,7 +28,7 @@ pub fn tally(alloc: Global, steps: &[Step]) -> Result<Counts, AllocError>
         readings: 0,
     };
     let mut turns: u128 = 1;
-    let mut saved = Stack::new(alloc);
+    let mut saved = Stack::new(alloc, turns);
     for i in 0..steps.len() {
         match steps[i] {
             Step::Set(_, count) => {
