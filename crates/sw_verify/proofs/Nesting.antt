@@ -1,7 +1,6 @@
 -- The verifier's look at one step.
 use Rattle.std.proofs.Common.{◌≡◌, ℕ, ◌+◌, ◌<◌, ◌==◌, Bool, true, false, ◌||◌, List, [], ◌∷◌, ◌++◌, drop, length, reverse, get_or, refl, sym, ap, ◌∙◌}
 use Rattle.std.proofs.lemmas.List.Folds.{list_any-append}
-use Rattle.std.specs.List.{list_any}
 use Rattle.std.proofs.lemmas.List.{drop_more, reverse-append}
 use Rattle.sw_code.specs.declared.code.Step.{Step}
 use Rattle.sw_verify.specs.declared.nest.Frame.{Frame}

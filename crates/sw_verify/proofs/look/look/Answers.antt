@@ -1,8 +1,7 @@
-use Rattle.std.proofs.Common.{◌≡◌, ◌+◌, ◌∷◌, ℕ, get_or, ⊎_elim, length, refl, sym, ◌∙◌}
+use Rattle.std.proofs.Common.{◌≡◌, ◌+◌, ◌∷◌, ℕ, get_or, ⊎_elim, refl, ◌∙◌}
 use Rattle.std.proofs.lemmas.Bool.{both_ways}
 use Rattle.sw_base.specs.declared.terms.LayerName.{LayerName}
 use Rattle.sw_code.specs.declared.code.Step.TheVariants as step
-use Rattle.sw_trigger.proofs.Awaiting.{listed_from_test}
 use Rattle.sw_verify.proofs.Looking.{next_step, after_wait, after_timer, after_pause, after_read, after_set, after_close, close_stops, after_open}
 use Rattle.sw_verify.proofs.Looking.{open_stops, moved}
 use Rattle.sw_verify.proofs.Looking.{loop_differs, after_loop, halt_right, halt_stops}

@@ -1,4 +1,4 @@
-use Rattle.std.proofs.Common.{◌≡◌, ◌||◌, Bool, List, ap, sym, ◌∙◌}
+use Rattle.std.proofs.Common.{◌||◌, Bool, List, ap, sym, ◌∙◌}
 use Rattle.sw_verify.specs.declared.nest.Frame.{Frame}
 use Rattle.sw_verify.specs.Nest.{in_use}
 use Rattle.sw_verify.proofs.Nesting.{in_use_parts}
