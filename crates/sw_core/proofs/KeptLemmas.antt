@@ -9,7 +9,7 @@ use Rattle.sw_card.specs.Account.{Account, of_meter, is_meter}
 use Rattle.sw_trigger.specs.declared.layer.Awaited.{Awaited}
 use Rattle.sw_trigger.specs.declared.layer.Awaited.TheVariants.{Wait, Period, Pause, Read}
 use Rattle.sw_trigger.specs.Settings.{SettingsSeen, IsInRange}
-use Rattle.sw_trigger.specs.Agenda.{Item, agenda}
+use Rattle.sw_trigger.specs.Agenda.{Item}
 use Rattle.sw_trigger.specs.Counts.{reads}
 use Rattle.sw_verify.specs.Check.{IsReady}
 use Rattle.sw_verify.specs.Channels.{Channels, none}

@@ -1,16 +1,12 @@
 -- The texts of answers.
 use Rattle.std.specs.Prelude.{◌≡◌, ◌<◌, ℕ, ℤ, pos, Bool, true, false, not, List, [], ◌∷◌, ◌++◌, length, map, codes}
-use Rattle.std.specs.Prelude.{Some, None, Result, Ok, Err}
+use Rattle.std.specs.Prelude.{Option, Some, None}
 use Rattle.std.specs.Fmt.{signed_decimal}
 use Rattle.std.specs.List.{join_with_byte, AllByRecursion}
-use Rattle.std.specs.declared.alloc.AllocError.{AllocError}
 use Rattle.sw_base.specs.Errors.{text_of, code_of}
 use Rattle.sw_base.specs.declared.error.ScpiError.{ScpiError}
-use Rattle.sw_base.specs.declared.error.ScpiError.TheVariants.{OutOfMemory}
 use Rattle.sw_base.specs.declared.terms.Source.{Source}
 use Rattle.sw_base.specs.declared.terms.Source.TheVariants.{Immediate, Bus, External, Hold, Timer}
-use Rattle.sw_core.specs.declared.ask.SessionAnswer.{SessionAnswer}
-use Rattle.sw_core.specs.declared.ask.SessionAnswer.TheVariants.{Done, Refused}
 
 -- the maker, the model, the serial number and the version (IEEE 488.2, 10.14)
 abbrev pub identity_text : List ℕ
@@ -41,6 +37,11 @@ error_entry e = entry (code_of e) (text_of e)
 abbrev pub no_error : List ℕ
 no_error = entry (pos 0) (codes "No error")
 
+-- what is told of an entry, or that there is none
+abbrev pub entry_told : Option ScpiError → List ℕ
+entry_told None = no_error
+entry_told (Some e) = error_entry e
+
 -- the oldest entry
 abbrev pub oldest_entry : List ScpiError → List ℕ
 oldest_entry [] = no_error
@@ -67,13 +68,3 @@ pub record IsRow (text : List ℕ) (pieces : List (List ℕ)) : Type 0 where
 -- one more piece may be put behind these: where there are any, a comma stands behind them
 abbrev pub IsOpenEnded : List ℕ → List (List ℕ) → Type 0
 IsOpenEnded text pieces = (piece : List ℕ) → 0 < length piece → IsRow (text ++ piece) (pieces ++ piece ∷ [])
-
--- the text is answered, or that there was no memory for it
-abbrev pub AnswersText : Result (List ℕ) AllocError → SessionAnswer → Type 0
-AnswersText (Ok text) answer = answer ≡ Done (Some text)
-AnswersText (Err e) answer = answer ≡ Refused OutOfMemory
-
--- a setting was taken, or refused by an error
-abbrev pub TakesSetting : Result (Unit {0}) ScpiError → SessionAnswer → Type 0
-TakesSetting (Ok done) answer = answer ≡ Done None
-TakesSetting (Err e) answer = answer ≡ Refused e

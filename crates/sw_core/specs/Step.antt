@@ -1,6 +1,7 @@
 -- What one ask may be answered, and what state it leaves: one line for each legal pair.
 use Rattle.std.specs.Prelude.{◌≡◌, ◌≢◌, ℕ, ◌-◌, ◌≤◌, ◌<◌, ◌==◌, ◌&&◌, not, Bool, true, false, List, [], ◌∷◌}
-use Rattle.std.specs.Prelude.{Option, None, Some, slice_set, map, decimal, is_some, MatchBool, ◌⊎◌, if◌then◌else◌}
+use Rattle.std.specs.Prelude.{Option, None, Some, slice_set, map, is_some, MatchBool, ◌⊎◌, if◌then◌else◌}
+use Rattle.std.specs.Prelude.{Result, Ok, Err}
 use Rattle.std.specs.List.{join_with_byte}
 use Rattle.sw_base.specs.Layout.{Channel, slot_at}
 use Rattle.sw_base.specs.Limits.{most_sessions}
@@ -111,6 +112,11 @@ StepText p text status f answer q = ⊥
 abbrev pub StepDone : Panel → Bool → SessionAnswer → Panel → Type 0
 StepDone after f (Done None) q = (f ≡ false) × (q ≡ after)
 StepDone after f answer q = ⊥
+
+-- a setting was taken, or refused by an error
+abbrev pub TakesSetting : Result (Unit {0}) ScpiError → SessionAnswer → Type 0
+TakesSetting (Ok done) answer = answer ≡ Done None
+TakesSetting (Err e) answer = answer ≡ Refused e
 
 -- a setting that is taken where it fits, else refused by this error
 abbrev pub StepSetting : Panel → Type 0 → ScpiError → SettingsSeen → Bool → SessionAnswer → Panel → Type 0

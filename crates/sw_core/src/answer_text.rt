@@ -1,14 +1,16 @@
 //! The text of a query's answer.
 
 ghost use Rattle.std.specs.Prelude.{◌≡◌, decimal};
+ghost use Rattle.sw_base.specs.Reading.{fixed};
 ghost use Rattle.sw_core.specs.AnswerText.{form_text};
+ghost use Rattle.sw_core.specs.Answers.{yes_or_no, entry_told};
 
 use std::marker::Model;
-use sw_base::Sequence;
+use sw_base::{ScpiError, Sequence};
 
 /// A query's answer. Contracts see its text.
 ///
-/// A whole number is printed where its text is wanted, so that it takes no memory until then.
+/// What can be printed where its text is wanted takes no memory until then.
 #[derive(Debug, Drop)]
 pub struct AnswerText {
     form: AnswerForm,
@@ -21,6 +23,12 @@ pub enum AnswerForm {
     Bytes(Sequence<u8>),
     /// A whole number, whose text is its decimal digits.
     Number(u64),
+    /// Microseconds, whose text is seconds with six decimals.
+    Seconds(u64),
+    /// A text that is always the same.
+    Fixed(&'static [u8]),
+    /// An entry of the error queue, or that it has none.
+    Entry(Option<ScpiError>),
 }
 
 impl Model for AnswerText {
@@ -49,6 +57,44 @@ impl AnswerText {
     {
         AnswerText {
             form: AnswerForm::Number(n),
+        }
+    }
+
+    /// `1` for yes, `0` for no.
+    pub fn flag(yes: bool) -> Self
+        ensures { result ≡ yes_or_no yes }
+    {
+        AnswerText::fixed(if yes { b"1" } else { b"0" })
+    }
+
+    /// Microseconds as seconds with six decimals.
+    #[inline(always)]
+    pub fn seconds(micros: u64) -> Self
+        ensures { result ≡ fixed 6 micros }
+    {
+        AnswerText {
+            form: AnswerForm::Seconds(micros),
+        }
+    }
+
+    /// This text, which is always the same.
+    #[inline(always)]
+    pub fn fixed(text: &'static [u8]) -> Self
+        ensures { result ≡ text.now }
+    {
+        AnswerText {
+            form: AnswerForm::Fixed(text),
+        }
+    }
+
+    /// An entry of the error queue: its number, a comma, and its text in quotes; or that there is none (SCPI-1999,
+    /// 21.8).
+    #[inline(always)]
+    pub fn entry(error: Option<ScpiError>) -> Self
+        ensures { result ≡ entry_told error }
+    {
+        AnswerText {
+            form: AnswerForm::Entry(error),
         }
     }
 

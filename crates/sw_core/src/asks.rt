@@ -1,10 +1,13 @@
 //! Who asks, and what still acts when no more events can be numbered.
 
-ghost use Rattle.std.specs.Prelude.{◌≡◌, false};
+ghost use Rattle.std.specs.Prelude.{◌≡◌, Bool, false};
 ghost use Rattle.sw_core.specs.Seen.{ask_seen, answer_seen, AskSession, HandsBack};
+ghost use Rattle.sw_core.specs.Action.{awaits_end};
 ghost use Rattle.sw_core.specs.Seats.{asker_of, is_dropped, is_shut_out};
 ghost use Rattle.sw_core.specs.Step.{acts_unnumbered, is_held, IsWorn};
+ghost use Rattle.sw_core.specs.declared.ask.Sid.{Sid};
 ghost use Rattle.sw_core.specs.declared.ask.SessionAnswer.TheVariants.{Stranger, Broken, Hold, Worn};
+ghost use Rattle.sw_core.specs.declared.ask.SessionAsk.TheVariants.{Unit};
 
 use crate::ask::{Answer, Ask, SessionAnswer, SessionAsk, Sid};
 use sw_card::{Meter, Relay};
@@ -61,7 +64,17 @@ pub fn is_held(ask: &SessionAsk) -> bool
     ensures { result ≡ is_held ask.now }
 {
     match ask {
-        SessionAsk::Unit(_, Command::Plain(Plain::OperationCompleteQuery | Plain::Wait), _) => true,
+        SessionAsk::Unit(_, command, _) => awaits_end(command),
+        _ => false,
+    }
+}
+
+/// Whether a command waits for the end of the scan.
+pub fn awaits_end(command: &Command) -> bool
+    ensures { result ≡ awaits_end command.now }
+{
+    match command {
+        Command::Plain(Plain::OperationCompleteQuery | Plain::Wait) => true,
         _ => false,
     }
 }
@@ -71,7 +84,18 @@ pub fn session_acts_unnumbered(ask: &SessionAsk) -> bool
     ensures { result ≡ acts_unnumbered (AskSession ask.now) }
 {
     match ask {
-        SessionAsk::Unit(_, Command::Plain(Plain::Abort), _) => true,
+        SessionAsk::Unit(_, command, _) => is_abort(command),
+        _ => false,
+    }
+}
+
+/// Whether a command is ABORt, which still acts when no more events can be numbered.
+pub fn is_abort(command: &Command) -> bool
+    ensures { (sid : Sid) (available : Bool)
+        → result ≡ acts_unnumbered (AskSession (Unit sid command.now available)) }
+{
+    match command {
+        Command::Plain(Plain::Abort) => true,
         _ => false,
     }
 }
@@ -93,6 +117,22 @@ pub fn hand_back(ask: SessionAsk, answer: &mut SessionAnswer)
     ensures { answer.new ≡ Worn ask }
 {
     *answer = SessionAnswer::Worn(ask);
+}
+
+/// Hands a unit's command back that can't be numbered, as `hand_back` does.
+#[inline(never)]
+pub fn hand_unit_back(sid: Sid, command: Command, available: bool, answer: &mut SessionAnswer)
+    ensures { answer.new ≡ Worn (Unit sid command available) }
+{
+    *answer = SessionAnswer::Worn(SessionAsk::Unit(sid, command, available));
+}
+
+/// Hands a unit's command back that is held, as `hold` does.
+#[inline(never)]
+pub fn hold_unit(sid: Sid, command: Command, available: bool, answer: &mut SessionAnswer)
+    ensures { answer.new ≡ Hold (Unit sid command available) }
+{
+    *answer = SessionAnswer::Hold(SessionAsk::Unit(sid, command, available));
 }
 
 /// Hands a session's ask back that is held.

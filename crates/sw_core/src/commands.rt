@@ -5,10 +5,9 @@ ghost use Rattle.sw_cage.specs.Change.{any_failed};
 ghost use Rattle.sw_lex.specs.declared.command.Command.{Command};
 ghost use Rattle.sw_core.specs.Action.{action_of, plain_action, channels_action, setting_action, is_trigger};
 ghost use Rattle.sw_core.specs.Action.{awaits_end};
-ghost use Rattle.sw_core.specs.Answers.{TakesSetting};
 ghost use Rattle.sw_core.specs.Panel.{is_running};
 ghost use Rattle.sw_core.specs.declared.ask.SessionAsk.{SessionAsk};
-ghost use Rattle.sw_core.specs.Step.{StepAction};
+ghost use Rattle.sw_core.specs.Step.{StepAction, TakesSetting};
 
 use crate::ask::SessionAnswer;
 use crate::state::Core;
@@ -37,7 +36,7 @@ impl<R: Relay, M: Meter> Core<R, M> {
         match command {
             Command::Plain(plain) => self.plain(alloc, plain),
             Command::Query(query) => self.tell(alloc, query, available),
-            Command::LayerQuery(query, layer) => self.tell_layer(alloc, query, layer),
+            Command::LayerQuery(query, layer) => self.tell_layer(query, layer),
             Command::GroupQuery(query, group) => self.tell_group(query, group),
             Command::ReadOut(read) => self.read_out(alloc, read),
             Command::Continuous(true) => conflict(),

@@ -10,7 +10,7 @@ ghost use Rattle.sw_core.specs.Step.{StepText, StepReadings};
 use crate::answer_text::AnswerText;
 use crate::ask::SessionAnswer;
 use crate::state::Core;
-use crate::text::{all_readings, identity, seconds, source_word, told, version};
+use crate::text::{all_readings, answered, identity, source_word, version};
 use std::alloc::Global;
 use sw_base::{LayerName, ScpiError, Sequence, StatusGroup};
 use sw_card::{Meter, Relay};
@@ -24,7 +24,7 @@ impl<R: Relay, M: Meter> Core<R, M> {
         ensures { StepText self.now (query_text available query self.now) self.now.status Bool.false result self.now }
     {
         match query {
-            PlainQuery::Identify => told(identity(alloc)),
+            PlainQuery::Identify => answered(identity()),
             PlainQuery::EventEnable => self.number(u64::from(self.status.ese())),
             PlainQuery::ServiceEnable => self.number(u64::from(self.status.sre())),
             PlainQuery::StatusByte => self.number(u64::from(self.status.byte(available))),
@@ -34,7 +34,7 @@ impl<R: Relay, M: Meter> Core<R, M> {
             PlainQuery::Scan => self.scan_query(alloc),
             PlainQuery::ScanMeter => self.number(u64::from(self.settings.meter())),
             PlainQuery::ErrorCount => self.number(self.status.count() as u64),
-            PlainQuery::Version => told(version(alloc)),
+            PlainQuery::Version => answered(version()),
             PlainQuery::Points => self.number(u64::from(self.settings.points())),
             PlainQuery::ActualPoints => self.number(self.cage.readings().len() as u64),
             PlainQuery::Bound => self.number(self.settings.bound()),
@@ -43,21 +43,16 @@ impl<R: Relay, M: Meter> Core<R, M> {
 
     /// Answers a query of a layer.
     #[inline(always)]
-    pub(crate) fn tell_layer(
-        &self,
-        alloc: Global,
-        query: LayerQuery,
-        layer: LayerName,
-    ) -> SessionAnswer
+    pub(crate) fn tell_layer(&self, query: LayerQuery, layer: LayerName) -> SessionAnswer
         ensures { StepText self.now (layer_text query (layer_of self.now.settings layer)) self.now.status Bool.false
             result self.now }
     {
         let layer = self.settings.layer(layer);
         match query {
             LayerQuery::Count => self.number(u64::from(layer.count)),
-            LayerQuery::Source => told(source_word(alloc, layer.source)),
-            LayerQuery::Delay => told(seconds(alloc, layer.delay_us)),
-            LayerQuery::Timer => told(seconds(alloc, layer.timer_us)),
+            LayerQuery::Source => answered(source_word(layer.source)),
+            LayerQuery::Delay => answered(AnswerText::seconds(layer.delay_us)),
+            LayerQuery::Timer => answered(AnswerText::seconds(layer.timer_us)),
         }
     }
 
@@ -82,7 +77,7 @@ impl<R: Relay, M: Meter> Core<R, M> {
     pub(crate) fn number(&self, n: u64) -> SessionAnswer
         ensures { StepText self.now (decimal n) self.now.status Bool.false result self.now }
     {
-        SessionAnswer::Done(Some(AnswerText::number(n)))
+        answered(AnswerText::number(n))
     }
 
     /// The channels of the scan.
@@ -92,7 +87,7 @@ impl<R: Relay, M: Meter> Core<R, M> {
             self.now }
     {
         match print_positions(alloc, self.settings.list()) {
-            Ok(text) => SessionAnswer::Done(Some(AnswerText::bytes(Sequence::new(text)))),
+            Ok(text) => answered(AnswerText::bytes(Sequence::new(text))),
             Err(error) => SessionAnswer::Refused(error),
         }
     }
@@ -107,7 +102,7 @@ impl<R: Relay, M: Meter> Core<R, M> {
             return SessionAnswer::Refused(ScpiError::DataCorruptOrStale);
         }
         match all_readings(alloc, readings) {
-            Ok(text) => SessionAnswer::Done(Some(AnswerText::bytes(text))),
+            Ok(text) => answered(AnswerText::bytes(text)),
             Err(_) => SessionAnswer::Refused(ScpiError::OutOfMemory),
         }
     }

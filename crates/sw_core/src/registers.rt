@@ -11,7 +11,7 @@ ghost use Rattle.sw_core.specs.Step.{StepText, StepDone};
 use crate::answer_text::AnswerText;
 use crate::ask::SessionAnswer;
 use crate::state::Core;
-use crate::text::{all_entries, oldest_entry, whole};
+use crate::text::{all_entries, answered};
 use std::alloc::Global;
 use sw_base::{ScpiError, StatusGroup};
 use sw_card::{Meter, Relay};
@@ -54,57 +54,39 @@ impl<R: Relay, M: Meter> Core<R, M> {
             result self.new }
     {
         match read {
-            StatusRead::EventStatus => self.event_query(alloc),
-            StatusRead::GroupEvent(group) => self.group_event_query(alloc, group),
-            StatusRead::NextError => self.next_error(alloc),
+            StatusRead::EventStatus => self.event_query(),
+            StatusRead::GroupEvent(group) => self.group_event_query(group),
+            StatusRead::NextError => self.next_error(),
             StatusRead::AllErrors => self.all_errors(alloc),
         }
     }
 
     /// Reads the event status register out.
-    #[inline(never)]
-    fn event_query(&mut self, alloc: Global) -> SessionAnswer
+    #[inline(always)]
+    fn event_query(&mut self) -> SessionAnswer
         ensures { StepText self.old (decimal self.old.status.esr) (record self.old.status { esr = 0 }) Bool.false result
             self.new }
     {
-        match whole(alloc, u64::from(self.status.esr())) {
-            Ok(text) => {
-                let _ = self.status.read_esr();
-                SessionAnswer::Done(Some(AnswerText::bytes(text)))
-            }
-            Err(_) => SessionAnswer::Refused(ScpiError::OutOfMemory),
-        }
+        answered(AnswerText::number(u64::from(self.status.read_esr())))
     }
 
     /// Reads a group's event register out.
-    #[inline(never)]
-    fn group_event_query(&mut self, alloc: Global, group: StatusGroup) -> SessionAnswer
+    #[inline(always)]
+    fn group_event_query(&mut self, group: StatusGroup) -> SessionAnswer
         ensures { StepText self.old (decimal (registers_of self.old.status group).event)
             (with_group self.old.status group (event_taken (registers_of self.old.status group))) Bool.false result
             self.new }
     {
-        match whole(alloc, u64::from(self.status.group(group).event())) {
-            Ok(text) => {
-                let _ = self.status.take_event(group);
-                SessionAnswer::Done(Some(AnswerText::bytes(text)))
-            }
-            Err(_) => SessionAnswer::Refused(ScpiError::OutOfMemory),
-        }
+        answered(AnswerText::number(u64::from(self.status.take_event(group))))
     }
 
     /// Takes the oldest error out of the queue.
     #[inline(never)]
-    fn next_error(&mut self, alloc: Global) -> SessionAnswer
+    fn next_error(&mut self) -> SessionAnswer
         ensures { StepText self.old (oldest_entry self.old.status.errors) (popped self.old.status) Bool.false result
             self.new }
     {
-        match oldest_entry(alloc, self.status.all_errors()) {
-            Ok(text) => {
-                let _ = self.status.pop_error();
-                SessionAnswer::Done(Some(AnswerText::bytes(text)))
-            }
-            Err(_) => SessionAnswer::Refused(ScpiError::OutOfMemory),
-        }
+        answered(AnswerText::entry(self.status.pop_error()))
     }
 
     /// Takes all errors out of the queue.
@@ -113,10 +95,13 @@ impl<R: Relay, M: Meter> Core<R, M> {
         ensures { StepText self.old (all_entries self.old.status.errors) (record self.old.status { errors = [] })
             Bool.false result self.new }
     {
+        if self.status.count() <= 1 {
+            return self.next_error();
+        }
         match all_entries(alloc, self.status.all_errors()) {
             Ok(text) => {
                 self.status.clear_errors();
-                SessionAnswer::Done(Some(AnswerText::bytes(text)))
+                answered(AnswerText::bytes(text))
             }
             Err(_) => SessionAnswer::Refused(ScpiError::OutOfMemory),
         }

@@ -13,7 +13,7 @@ use crate::answer_text::AnswerText;
 use crate::ask::SessionAnswer;
 use crate::registers::{clear_card_fault, report_card_fault};
 use crate::state::Core;
-use crate::text::flags;
+use crate::text::{answered, flag, flags};
 use std::alloc::Global;
 use sw_base::{Chan, ScpiError, Sequence};
 use sw_cage::CloseRefusal;
@@ -107,8 +107,11 @@ impl<R: Relay, M: Meter> Core<R, M> {
         if !self.cage.all_present(chans) {
             return SessionAnswer::Refused(ScpiError::HardwareMissing);
         }
+        if let [chan] = chans {
+            return answered(flag(&self.cage, closed, *chan));
+        }
         match flags(alloc, &self.cage, closed, chans) {
-            Ok(text) => SessionAnswer::Done(Some(AnswerText::bytes(text))),
+            Ok(text) => answered(AnswerText::bytes(text)),
             Err(_) => SessionAnswer::Refused(ScpiError::OutOfMemory),
         }
     }
@@ -121,7 +124,7 @@ impl<R: Relay, M: Meter> Core<R, M> {
     {
         match self.cage.closed_chans(alloc) {
             Ok(closed) => match print_list(alloc, &closed) {
-                Ok(text) => SessionAnswer::Done(Some(AnswerText::bytes(Sequence::new(text)))),
+                Ok(text) => answered(AnswerText::bytes(Sequence::new(text))),
                 Err(error) => SessionAnswer::Refused(error),
             },
             Err(_) => SessionAnswer::Refused(ScpiError::OutOfMemory),

@@ -120,12 +120,28 @@ impl Sessions {
         })
     }
 
+    /// Whether the session is being cleared.
+    pub fn is_clearing(&self, sid: Sid) -> bool
+        requires { IsJoined self.now sid }
+        ensures { result ≡ is_clearing self.now sid.number }
+    {
+        self.seat(sid).clearing
+    }
+
+    /// Whether the locks let the session in.
+    pub fn admits(&self, sid: Sid) -> bool
+        requires { IsJoined self.now sid }
+        ensures { result ≡ admits self.now.locks sid.number }
+    {
+        self.locks.admits(sid.number)
+    }
+
     /// Whether what the session asks is dropped now.
     pub fn drops(&self, sid: Sid, ask: &SessionAsk) -> bool
         requires { IsJoined self.now sid }
         ensures { result ≡ is_clearing self.now sid.number && is_dropped ask.now }
     {
-        self.seat(sid).clearing && is_dropped(ask)
+        self.is_clearing(sid) && is_dropped(ask)
     }
 
     /// Whether what the session asks waits for the locks of others now.
@@ -133,7 +149,7 @@ impl Sessions {
         requires { IsJoined self.now sid }
         ensures { result ≡ not (admits self.now.locks sid.number) && is_shut_out ask.now }
     {
-        !self.locks.admits(sid.number) && is_shut_out(ask)
+        !self.admits(sid) && is_shut_out(ask)
     }
 
     /// Does what a session asks of its seat or of the locks.

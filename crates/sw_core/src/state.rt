@@ -9,6 +9,7 @@ ghost use Rattle.sw_core.specs.Seen.{AskSession, AskInstall, AskEject, SaysSessi
 ghost use Rattle.sw_core.specs.Panel.{Panel, is_running, opening, opening_at};
 ghost use Rattle.sw_core.specs.Seats.{asker_of};
 ghost use Rattle.sw_core.specs.Event.{last_number};
+ghost use Rattle.sw_core.specs.Action.{awaits_end};
 ghost use Rattle.sw_core.specs.Step.{Step, Acts, StepSession, StepNew, StepJoin, StepAttach, StepJoined, is_held};
 ghost use Rattle.sw_core.specs.Step.{drops, shuts_out};
 ghost use Rattle.sw_core.specs.declared.ask.Sid.{Sid};
@@ -19,8 +20,8 @@ ghost use Rattle.sw_lex.specs.declared.command.Command.{Command};
 
 use crate::ask::{Answer, Ask, SessionAnswer, SessionAsk, Sid, Work};
 use crate::asks::{
-    acts_unnumbered, asker, break_off, hand_back, hold, is_held, put, session_acts_unnumbered,
-    turn_away, unnumbered,
+    acts_unnumbered, asker, awaits_end, break_off, hand_back, hand_unit_back, hold, hold_unit,
+    is_abort, is_held, put, session_acts_unnumbered, turn_away, unnumbered,
 };
 use crate::registers::clear_card_fault;
 use crate::sessions::Sessions;
@@ -123,7 +124,6 @@ impl<R: Relay, M: Meter> Core<R, M> {
     /// Does what a session asks: one event, as `apply` does it, where it can be numbered. What it is answered is left in
     /// `answer`, and what its scan awaits now in `work`.
     #[tactic(auto, using(crate::proofs::NumberedLemmas::worn_step, crate::proofs::NumberedLemmas::numbered_step))]
-    #[inline(always)]
     pub fn ask(
         &mut self,
         alloc: Global,
@@ -140,6 +140,31 @@ impl<R: Relay, M: Meter> Core<R, M> {
             return;
         }
         self.session(alloc, ask, answer, work);
+        self.end_session_event(answer);
+    }
+
+    /// Does what a session asks by the command of a unit, as `ask` does it: so the ask is made only where it is handed
+    /// back.
+    #[tactic(auto, using(crate::proofs::NumberedLemmas::worn_step, crate::proofs::NumberedLemmas::numbered_step))]
+    #[inline(always)]
+    pub fn ask_unit(
+        &mut self,
+        alloc: Global,
+        sid: Sid,
+        command: Command,
+        available: bool,
+        answer: &mut SessionAnswer,
+        work: &mut Option<Work<M>>,
+    )
+        requires { work.old ≡ None }
+        ensures { Step self.old (AskSession (Unit sid command available))
+            (any_failed self.old.cage.cards self.new.cage.cards) (SaysSession answer.new (work_seen work.new)) self.new }
+    {
+        if self.events == u64::MAX && !is_abort(&command) {
+            hand_unit_back(sid, command, available, answer);
+            return;
+        }
+        self.unit(alloc, sid, command, available, answer, work);
         self.end_session_event(answer);
     }
 
@@ -218,8 +243,6 @@ impl<R: Relay, M: Meter> Core<R, M> {
     }
 
     /// Does what a session asks, or drops it, holds it or refuses it as a stranger's.
-    #[tactic(auto, using(crate::proofs::CallsLemmas::failed_same))]
-    #[inline(always)]
     fn session(
         &mut self,
         alloc: Global,
@@ -228,6 +251,85 @@ impl<R: Relay, M: Meter> Core<R, M> {
         work: &mut Option<Work<M>>,
     )
         requires { work.old ≡ None }
+        ensures { StepSession (asker_of ask) self.old ask (any_failed self.old.cage.cards self.new.cage.cards)
+            answer.new (work_seen work.new) self.new }
+    {
+        match ask {
+            SessionAsk::Unit(sid, command, available) => {
+                self.unit(alloc, sid, command, available, answer, work);
+            }
+            ask => self.beside_units(alloc, ask, answer, work),
+        }
+    }
+
+    /// Does what a session asks by the command of a unit, or drops it, holds it or refuses it as a stranger's.
+    #[tactic(auto, using(crate::proofs::CallsLemmas::failed_same))]
+    #[inline(always)]
+    fn unit(
+        &mut self,
+        alloc: Global,
+        sid: Sid,
+        command: Command,
+        available: bool,
+        answer: &mut SessionAnswer,
+        work: &mut Option<Work<M>>,
+    )
+        requires { work.old ≡ None }
+        ensures { StepSession (Some sid) self.old (Unit sid command available)
+            (any_failed self.old.cage.cards self.new.cage.cards) answer.new (work_seen work.new) self.new }
+    {
+        if !self.sessions.has(sid) {
+            turn_away(answer);
+            return;
+        }
+        if self.sessions.is_clearing(sid) {
+            break_off(answer);
+            return;
+        }
+        if !self.sessions.admits(sid) || (awaits_end(&command) && self.cage.is_running()) {
+            hold_unit(sid, command, available, answer);
+            return;
+        }
+        self.carry_out(alloc, command, available, answer, work);
+    }
+
+    /// Carries out the command of a session that is joined, which nothing holds.
+    #[tactic(auto, using(crate::proofs::CallsLemmas::failed_same))]
+    #[inline(always)]
+    fn carry_out(
+        &mut self,
+        alloc: Global,
+        command: Command,
+        available: bool,
+        answer: &mut SessionAnswer,
+        work: &mut Option<Work<M>>,
+    )
+        requires unheld { awaits_end command && is_running self.old ≡ false }
+        requires empty { work.old ≡ None }
+        ensures { (sid : Sid) → StepJoined self.old (Unit sid command available)
+            (any_failed self.old.cage.cards self.new.cage.cards) answer.new (work_seen work.new) self.new }
+    {
+        match command {
+            Command::Plain(Plain::Trigger) => {
+                self.trigger(Happening::Bus, ScpiError::TriggerIgnored, answer, work);
+            }
+            Command::Signal(layer) => self.signal(layer, answer, work),
+            command => put(self.command(alloc, command, available), answer),
+        }
+    }
+
+    /// Does what a session asks beside units, or drops it, holds it or refuses it as a stranger's.
+    #[tactic(auto, using(crate::proofs::CallsLemmas::failed_same))]
+    #[inline(never)]
+    fn beside_units(
+        &mut self,
+        alloc: Global,
+        ask: SessionAsk,
+        answer: &mut SessionAnswer,
+        work: &mut Option<Work<M>>,
+    )
+        requires apart { (sid : Sid) (command : Command) (available : Bool) → ask ≡ Unit sid command available → ⊥ }
+        requires empty { work.old ≡ None }
         ensures { StepSession (asker_of ask) self.old ask (any_failed self.old.cage.cards self.new.cage.cards)
             answer.new (work_seen work.new) self.new }
     {
@@ -243,7 +345,7 @@ impl<R: Relay, M: Meter> Core<R, M> {
             break_off(answer);
             return;
         }
-        if self.sessions.shuts_out(sid, &ask) || (is_held(&ask) && self.cage.is_running()) {
+        if self.sessions.shuts_out(sid, &ask) {
             hold(ask, answer);
             return;
         }
@@ -284,9 +386,8 @@ impl<R: Relay, M: Meter> Core<R, M> {
         }
     }
 
-    /// Does what a session that is joined asks, where nothing holds it.
+    /// Does what a session that is joined asks beside units, where nothing holds it.
     #[tactic(auto, using(crate::proofs::CallsLemmas::failed_same))]
-    #[inline(always)]
     fn joined(
         &mut self,
         alloc: Global,
@@ -297,41 +398,7 @@ impl<R: Relay, M: Meter> Core<R, M> {
     )
         requires asker { asker_of ask ≡ Some sid }
         requires joined { IsJoined self.old.sessions sid }
-        requires unheld { is_held ask && is_running self.old ≡ false }
-        requires empty { work.old ≡ None }
-        ensures { StepJoined self.old ask (any_failed self.old.cage.cards self.new.cage.cards) answer.new
-            (work_seen work.new) self.new }
-    {
-        match ask {
-            SessionAsk::Unit(_, Command::Plain(Plain::Trigger), _) => {
-                self.trigger(Happening::Bus, ScpiError::TriggerIgnored, answer, work);
-            }
-            SessionAsk::Unit(_, Command::Signal(layer), _) => self.signal(layer, answer, work),
-            SessionAsk::Unit(_, command, available) => {
-                put(self.command(alloc, command, available), answer);
-            }
-            SessionAsk::Bus(_) => {
-                self.trigger(Happening::Bus, ScpiError::TriggerIgnored, answer, work);
-            }
-            ask => self.serve(alloc, sid, ask, answer, work),
-        }
-    }
-
-    /// Does what a session that is joined asks beside what drives the instrument by messages.
-    #[tactic(auto, using(crate::proofs::CallsLemmas::failed_same))]
-    #[inline(never)]
-    fn serve(
-        &mut self,
-        alloc: Global,
-        sid: Sid,
-        ask: SessionAsk,
-        answer: &mut SessionAnswer,
-        work: &mut Option<Work<M>>,
-    )
-        requires asker { asker_of ask ≡ Some sid }
-        requires joined { IsJoined self.old.sessions sid }
-        requires apart { (command : Command) (available : Bool) → ask ≡ Unit sid command available → ⊥ }
-        requires untriggered { ask ≡ Bus sid → ⊥ }
+        requires apart { (sid : Sid) (command : Command) (available : Bool) → ask ≡ Unit sid command available → ⊥ }
         requires empty { work.old ≡ None }
         ensures { StepJoined self.old ask (any_failed self.old.cage.cards self.new.cage.cards) answer.new
             (work_seen work.new) self.new }
@@ -340,6 +407,9 @@ impl<R: Relay, M: Meter> Core<R, M> {
             SessionAsk::Fault(_, error) => {
                 self.status.push_error(error);
                 put(SessionAnswer::Done(None), answer);
+            }
+            SessionAsk::Bus(_) => {
+                self.trigger(Happening::Bus, ScpiError::TriggerIgnored, answer, work);
             }
             SessionAsk::Snapshot(_) => put(self.snapshot(alloc), answer),
             SessionAsk::Start(_, plan) => put(self.start(alloc, plan, work), answer),

@@ -1,82 +1,59 @@
 //! The texts of answers.
 
-ghost use Rattle.std.specs.Prelude.{◌≡◌, ◌<◌, ◌∷◌, [], ◌++◌, List, ℕ, length, IfOk, OnOk, map, decimal};
+ghost use Rattle.std.specs.Prelude.{◌≡◌, ◌<◌, ◌∷◌, [], ◌++◌, List, ℕ, length, IfOk, OnOk, Some, map};
 ghost use Rattle.std.specs.List.{join_with_byte};
-ghost use Rattle.sw_base.specs.Reading.{fixed, reading_text};
+ghost use Rattle.sw_base.specs.Reading.{reading_text};
 ghost use Rattle.sw_cage.specs.Accounts.{is_closed};
 ghost use Rattle.sw_core.specs.Answers.{identity_text, version, yes_or_no, as_asked, entry, error_entry, no_error};
-ghost use Rattle.sw_core.specs.Answers.{oldest_entry};
-ghost use Rattle.sw_core.specs.Answers.{all_entries, source_word, IsRow, IsOpenEnded, AnswersText};
+ghost use Rattle.sw_core.specs.Answers.{all_entries, source_word, IsRow, IsOpenEnded};
+ghost use Rattle.sw_core.specs.declared.ask.SessionAnswer.TheVariants.{Done};
 
 use crate::answer_text::AnswerText;
 use crate::ask::SessionAnswer;
 use std::alloc::{AllocError, Global};
-use sw_base::{
-    Chan, NO_ERROR, Reading, ScpiError, Sequence, Source, print_micros, print_number,
-    print_reading, print_signed,
-};
+use sw_base::{Chan, NO_ERROR, Reading, ScpiError, Sequence, Source, print_reading, print_signed};
 use sw_cage::Cage;
 use sw_card::{Meter, Relay};
 
-/// For how many bytes there is room in a short answer, so that the line it begins takes memory once, in most cases.
+/// For how many bytes there is room in a text that grows.
 const ROOM: usize = 64;
 
 /// For how many bytes there is room for each reading: one below ten volts, and a comma.
 const READING_ROOM: usize = 12;
 
-/// A short answer.
-fn short(alloc: Global, text: &[u8]) -> Result<Sequence<u8>, AllocError>
-    ensures { IfOk result (λ answer. answer ≡ text.now) }
-{
-    let mut answer = Vec::with_capacity(alloc, ROOM)?;
-    answer.extend_from_slice(text)?;
-    Ok(Sequence::new(answer))
-}
-
 /// The maker, the model, the serial number and the version (IEEE 488.2, 10.14).
-pub fn identity(alloc: Global) -> Result<Sequence<u8>, AllocError>
-    ensures { IfOk result (λ text. text ≡ identity_text) }
+pub fn identity() -> AnswerText
+    ensures { result ≡ identity_text }
 {
-    short(alloc, b"OPENBENCH,SWM8,0,1.0")
+    AnswerText::fixed(b"OPENBENCH,SWM8,0,1.0")
 }
 
 /// The version of SCPI (SCPI-1999, 21.21).
-pub fn version(alloc: Global) -> Result<Sequence<u8>, AllocError>
-    ensures { IfOk result (λ text. text ≡ version) }
+pub fn version() -> AnswerText
+    ensures { result ≡ version }
 {
-    short(alloc, b"1999.0")
-}
-
-/// A whole number.
-pub fn whole(alloc: Global, n: u64) -> Result<Sequence<u8>, AllocError>
-    ensures { IfOk result (λ text. text ≡ decimal n) }
-{
-    let mut buffer = [0; 32];
-    let end = print_number(n, &mut buffer);
-    short(alloc, &buffer[..end])
-}
-
-/// Microseconds as seconds with six decimals.
-pub fn seconds(alloc: Global, micros: u64) -> Result<Sequence<u8>, AllocError>
-    ensures { IfOk result (λ text. text ≡ fixed 6 micros) }
-{
-    let mut buffer = [0; 32];
-    let end = print_micros(micros, &mut buffer);
-    short(alloc, &buffer[..end])
+    AnswerText::fixed(b"1999.0")
 }
 
 /// The short form of a source.
-pub fn source_word(alloc: Global, source: Source) -> Result<Sequence<u8>, AllocError>
-    ensures { IfOk result (λ text. text ≡ source_word source) }
+pub fn source_word(source: Source) -> AnswerText
+    ensures { result ≡ source_word source }
 {
-    let word: &[u8] = match source {
+    let word: &'static [u8] = match source {
         Source::Immediate => b"IMM",
         Source::Bus => b"BUS",
         Source::External => b"EXT",
         Source::Timer => b"TIM",
         Source::Hold => b"HOLD",
     };
-    short(alloc, word)
+    AnswerText::fixed(word)
+}
+
+/// The flag of one channel, as `flags` has it for each.
+pub fn flag<R: Relay, M: Meter>(cage: &Cage<R, M>, closed: bool, chan: Chan) -> AnswerText
+    ensures { result ≡ yes_or_no (as_asked closed (is_closed cage.now.seen.cards chan)) }
+{
+    AnswerText::flag(as_asked(closed, cage.is_closed(chan)))
 }
 
 /// For each channel `1` or `0`, joined by commas: whether it is closed, or, where `closed` is false, whether it is
@@ -93,7 +70,7 @@ pub fn flags<R: Relay, M: Meter>(
     let mut text = Vec::with_capacity(alloc, chans.len())?;
     for chan in chans {
         separate(&mut text)?;
-        text.push(flag(as_asked(closed, cage.is_closed(*chan))))?;
+        text.push(sign(as_asked(closed, cage.is_closed(*chan))))?;
     }
     Ok(Sequence::new(text))
 }
@@ -106,24 +83,10 @@ fn as_asked(asked: bool, closed: bool) -> bool
 }
 
 /// `1` for yes, `0` for no.
-fn flag(yes: bool) -> u8
+fn sign(yes: bool) -> u8
     ensures { result ∷ [] ≡ yes_or_no yes }
 {
     if yes { b'1' } else { b'0' }
-}
-
-/// The oldest entry of the error queue.
-pub fn oldest_entry(alloc: Global, errors: &[ScpiError]) -> Result<Sequence<u8>, AllocError>
-    ensures { IfOk result (λ text. text ≡ oldest_entry errors.now) }
-{
-    match errors {
-        [] => nothing(alloc),
-        [error, ..] => {
-            let mut text = Vec::with_capacity(alloc, ROOM)?;
-            add_entry(&mut text, *error)?;
-            Ok(Sequence::new(text))
-        }
-    }
 }
 
 /// All entries of the error queue.
@@ -204,12 +167,10 @@ fn separate(text: &mut Vec<u8>) -> Result<(), AllocError>
     Ok(())
 }
 
-/// A query's answer, or that there was no memory for it.
-pub fn told(text: Result<Sequence<u8>, AllocError>) -> SessionAnswer
-    ensures { AnswersText text result }
+/// A query's answer.
+#[inline(always)]
+pub fn answered(text: AnswerText) -> SessionAnswer
+    ensures { result ≡ Done (Some text) }
 {
-    match text {
-        Ok(text) => SessionAnswer::Done(Some(AnswerText::bytes(text))),
-        Err(_) => SessionAnswer::Refused(ScpiError::OutOfMemory),
-    }
+    SessionAnswer::Done(Some(text))
 }

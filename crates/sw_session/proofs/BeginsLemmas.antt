@@ -1,19 +1,19 @@
 -- A unit is begun.
-use Rattle.std.proofs.Common.{◌≡◌, ℕ, Bool, true, false, List, Option, Ok, Err, refl, sym, subst}
+use Rattle.std.proofs.Common.{◌≡◌, Bool, true, false, List, Ok, Err, inl, inr, refl, sym, subst}
 use Rattle.sw_base.specs.declared.error.ScpiError.{ScpiError}
+use Rattle.sw_base.specs.declared.error.ScpiError.TheVariants.{OutOfMemory}
 use Rattle.sw_lex.specs.declared.command.Command.{Command}
 use Rattle.sw_lex.specs.declared.command.Plain.{Plain}
 use Rattle.sw_lex.specs.declared.command.Channels.{Channels}
 use Rattle.sw_core.specs.Action.{Effect, IsOfMacros, action_of}
-use Rattle.sw_core.specs.declared.ask.SessionAnswer.TheVariants.{Done}
 use Rattle.sw_macro.specs.Table.{Table}
 use Rattle.sw_core.specs.declared.ask.Sid.{Sid}
 use Rattle.sw_core.specs.declared.ask.SessionAsk.TheVariants as Ask
 use Rattle.sw_core.specs.declared.ask.SessionAnswer.{SessionAnswer}
 use Rattle.sw_session.specs.Trace.{Entry, Led}
 use Rattle.sw_session.specs.Macros.{Told, ActsOnMacros}
-use Rattle.sw_session.specs.Talk.{Queues, Settles, Begins, BeginsBy, begun_with, effect_of, is_own, Reports, StartsScan, Plans, table_reset}
-use Rattle.sw_session.proofs.LedLemmas.{led-none, led-so, led-then}
+use Rattle.sw_session.specs.Talk.{Queues, Settles, Begins, BeginsBy, begun_with, effect_of, is_own, reads_out, Reports, StartsScan, Plans, table_reset}
+use Rattle.sw_session.proofs.LedLemmas.{led-so, led-then}
 
 module _ {D : Type 0} (passes : D → Entry → D → Type 0) (sid : Sid) where
   pub initiate-planned : (d0 d1 d2 : D) (told final : SessionAnswer) → Led passes d0 d1 (λ t rest. Settles sid 0 (Ask.Snapshot sid) t told rest)
@@ -32,6 +32,7 @@ module _ {D : Type 0} (passes : D → Entry → D → Type 0) (sid : Sid) where
   asked (Command.Plain Plain.Reset) answered macros t final rest own s = absurd (cc (own))
   asked (Command.Macros ask) answered macros t final rest own s = absurd (cc (own))
   asked (Command.Macro ask) answered macros t final rest own s = absurd (cc (own))
+  asked (Command.ReadOut read) answered macros t final rest own s = (inl s, refl)
   asked (Command.Channels Channels.Close chans) answered macros t final rest own s = (s, refl)
   asked (Command.Continuous true) answered macros t final rest own s = (s, refl)
   asked (Command.Continuous false) answered macros t final rest own s = (s, refl)
@@ -44,6 +45,21 @@ module _ {D : Type 0} (passes : D → Entry → D → Type 0) (sid : Sid) where
       led-so passes d0 d1 (λ t rest. Settles sid 0 (Ask.Unit sid command answered) t final rest) (λ t rest.
       Begins sid answered (Ok command) macros t (begun_with final macros rest)) p
       (λ t rest s. asked command answered macros t final rest own s)
+
+  -- there was no memory for what a command would have read out
+  unread : (command : Command) (answered : Bool) (macros : Table) (t : List Entry) (final : SessionAnswer) (rest : List Entry)
+      → reads_out command ≡ true → Queues sid OutOfMemory t final rest
+      → Begins sid answered (Ok command) macros t (begun_with final macros rest)
+  unread (Command.ReadOut read) answered macros t final rest is q = (inr q, refl)
+  unread command answered macros t final rest is q = absurd (cc (is))
+
+  pub begins-unread : (d0 d1 : D) (command : Command) (answered : Bool) (final : SessionAnswer) (macros : Table)
+      → reads_out command ≡ true → Led passes d0 d1 (λ t rest. Queues sid OutOfMemory t final rest)
+      → Led passes d0 d1 (λ t rest. Begins sid answered (Ok command) macros t (begun_with final macros rest))
+  begins-unread d0 d1 command answered final macros is p =
+      led-so passes d0 d1 (λ t rest. Queues sid OutOfMemory t final rest) (λ t rest.
+      Begins sid answered (Ok command) macros t (begun_with final macros rest)) p
+      (λ t rest q. unread command answered macros t final rest is q)
 
   -- a macro command was carried out
   pub begins-reported : (d0 d1 : D) (command : Command) (answered : Bool) (told : Told) (final : SessionAnswer) (macros macros' : Table)

@@ -17,7 +17,7 @@ use Rattle.sw_verify.specs.declared.refusal.Refusal.TheVariants.{NotClosed, NoMe
 use Rattle.sw_verify.specs.Check.{IsReady, IsFirst, IsRefusedScan as IsUnplanned, refusal_number, error_of}
 use Rattle.sw_macro.specs.Table.{Table}
 use Rattle.sw_macro.specs.Expansion.{calls, Expands}
-use Rattle.sw_core.specs.Action.{Effect, IsOfMacros, Initiates, Resets, action_of}
+use Rattle.sw_core.specs.Action.{Effect, IsOfMacros, Initiates, Resets, ReadsOut, action_of}
 use Rattle.sw_core.specs.declared.ask.Sid.{Sid}
 use Rattle.sw_core.specs.declared.ask.SessionAsk.{SessionAsk}
 use Rattle.sw_core.specs.declared.ask.SessionAsk.TheVariants as Ask
@@ -285,6 +285,13 @@ by-same b b' Initiates sid answered command macros t t' x x' p q next =
 by-same b b' Resets sid answered command macros t t' x x' p q next =
     settles-same b b' sid 0 (Ask.Unit sid command answered) t t' x.rest x'.rest x.answer x'.answer p.0 q.0
     (λ same. next same (p.1 ∙ ap (λ (a : SessionAnswer). table_reset a macros) same ∙ sym q.1))
+by-same b b' (ReadsOut text left) sid answered command macros t t' x x' (p, is) (q, is') next = λ m n. elim p [
+  | inl k ↦ elim q [
+    | inl k' ↦ asks-same b b' sid (Ask.Unit sid command answered) macros t t' x x' (k, is) (k', is') next m n
+    | inr lost ↦ absurd (no-loss sid t' x'.rest x'.answer n lost)
+  ]
+  | inr lost ↦ absurd (no-loss sid t x.rest x.answer m lost)
+]
 by-same b b' effect sid answered command macros t t' x x' p q next = asks-same b b' sid (Ask.Unit sid command answered) macros t t' x x' p q next
 
 begins-same : {T : Type 0} (b b' : T) (sid : Sid) (answered : Bool) (command : Result Command ScpiError) (macros : Table) (t t' : List Entry) (x x' : Begun)

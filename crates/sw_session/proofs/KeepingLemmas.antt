@@ -4,10 +4,12 @@ use Rattle.std.specs.Prelude.{replicate}
 use Rattle.std.proofs.lemmas.List.{append-nil, replicate_more}
 use Rattle.sw_core.specs.declared.ask.Sid.{Sid}
 use Rattle.sw_core.specs.declared.ask.SessionAsk.{SessionAsk}
+use Rattle.sw_core.specs.declared.ask.SessionAsk.TheVariants.{Unit}
 use Rattle.sw_core.specs.declared.ask.SessionAnswer.{SessionAnswer}
-use Rattle.sw_core.specs.declared.ask.SessionAnswer.TheVariants.{Hold}
+use Rattle.sw_core.specs.declared.ask.SessionAnswer.TheVariants.{Joined, Done, Hold}
 use Rattle.sw_core.specs.declared.ask.Work.{Work}
 use Rattle.sw_core.specs.Panel.{Panel}
+use Rattle.sw_lex.specs.declared.command.Command.{Command}
 use Rattle.sw_core.specs.Seen.{WorkSeen, work_seen, AskSeen, AskSession, AnswerSeen, SaysSession, SaysInstalled, SaysNotInstalled}
 use Rattle.sw_core.specs.Seen.{SaysEjected, SaysNotEjected, SaysTaken, SaysMissed, SaysFailed, SaysBack, SaysWorn}
 use Rattle.sw_core.specs.Step.{Step, Brings}
@@ -15,6 +17,7 @@ use Rattle.sw_session.specs.declared.desk.View.{View}
 use Rattle.sw_session.specs.declared.desk.Wake.TheVariants.{Again, Over}
 use Rattle.sw_session.specs.Trace.{Entry, Asked, Waited, Polled, Noted, Leads, LeavesOf}
 use Rattle.sw_session.specs.declared.available.Seating.{Seating}
+use Rattle.sw_session.specs.declared.available.Seating.TheVariants.{Stays}
 use Rattle.sw_session.specs.Available.{Notes, with_note, followed, seated, seating_of}
 use Rattle.sw_session.specs.CoreDesk.{DeskSeen, IsFull, Carried, CarriesOut, CarriesOldest, TellsOfPiece, Keeps, IsKept}
 use Rattle.sw_session.specs.CoreDesk.{IsCarried, PassesBy, CorePasses, WaitsOut, most_waits, brought}
@@ -143,6 +146,21 @@ passes-ask old told mid new ask failed answer brings seating step work room avai
         kept.keeps;
   },
 )
+
+followed-stays : (notes : Notes) (answer : SessionAnswer) → followed notes answer Stays ≡ notes
+followed-stays notes (Joined sid) = refl
+followed-stays notes (Done text) = refl
+followed-stays notes answer = refl
+
+-- an ask for the command of a unit, by which nobody joins or leaves
+pub passes-unit : (old told new : DeskSeen) (sid : Sid) (command : Command) (answered failed : Bool) (answer : SessionAnswer) (brings : Option WorkSeen)
+    → Step old.panel (AskSession (Unit sid command answered)) failed (SaysSession answer brings) told.panel → told.work ≡ old.work → told.room ≡ old.room
+    → told.available ≡ old.available
+    → IsKept told brings new
+    → CorePasses old (Asked (Unit sid command answered) answer) new
+passes-unit old told new sid command answered failed answer brings step work room available kept =
+    passes-ask old told told new (Unit sid command answered) failed answer brings Stays step work room available refl
+    (ap (λ (n : Notes). let r : DeskSeen = record told { available = n } in r) (sym (followed-stays told.available answer))) kept
 
 -- an ask that is held, with nothing changed
 pub passes-held : (d : DeskSeen) (ask : SessionAsk) → Step d.panel (AskSession ask) false (SaysSession (Hold ask) None) d.panel

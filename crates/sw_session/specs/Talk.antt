@@ -1,7 +1,7 @@
 -- What is asked after each answer, and what is written (IEEE 488.2, 6.3, 8.4 and 10.7; SCPI-1999, 21.8).
 use Rattle.std.specs.Prelude.{◌≡◌, ℕ, ◌+◌, ◌^◌, ◌≤◌, ◌⊎◌, ◌==◌, Bool, true, false, nat_lt, nat_le, ◌&&◌, MatchBool}
 use Rattle.std.specs.Prelude.{List, []}
-use Rattle.std.specs.Prelude.{◌∷◌, ◌++◌, Some, None, Result, Ok, Err, length, if◌then◌else◌}
+use Rattle.std.specs.Prelude.{◌∷◌, ◌++◌, Some, None, Result, Ok, Err, length, take, if◌then◌else◌}
 use Rattle.sw_base.specs.Limits.{most_bytes, most_answer_bytes}
 use Rattle.sw_base.specs.declared.error.ScpiError.{ScpiError}
 use Rattle.sw_base.specs.declared.error.ScpiError.TheVariants.{SettingsConflict, OutOfMemory, InputBufferOverrun}
@@ -15,7 +15,7 @@ use Rattle.sw_macro.specs.Table.{Table}
 use Rattle.sw_macro.specs.Expansion.{calls, Expands}
 use Rattle.sw_verify.specs.declared.refusal.Refusal.{Refusal}
 use Rattle.sw_verify.specs.Check.{IsReady, IsRefusedScan, error_of}
-use Rattle.sw_core.specs.Action.{Effect, IsOfMacros, Initiates, Resets, Action, AtOnce, BetweenScans, AfterScan}
+use Rattle.sw_core.specs.Action.{Effect, IsOfMacros, Initiates, Resets, ReadsOut, Action, AtOnce, BetweenScans, AfterScan}
 use Rattle.sw_core.specs.Action.{action_of}
 use Rattle.sw_core.specs.declared.ask.Sid.{Sid}
 use Rattle.sw_core.specs.declared.ask.SessionAsk.{SessionAsk}
@@ -39,6 +39,11 @@ abbrev pub answer_line : List (List ℕ) → List ℕ
 answer_line [] = []
 answer_line (a ∷ []) = a ++ 10 ∷ []
 answer_line (a ∷ b ∷ answers) = a ++ 59 ∷ answer_line (b ∷ answers)
+
+-- a line of answers that is opened for one more: a semicolon stands in place of its line feed
+abbrev pub opened : List ℕ → List ℕ
+opened [] = []
+opened (b ∷ line) = take (length line) (b ∷ line) ++ 59 ∷ []
 
 -- there is room for these answers to one message
 abbrev pub HasRoom : List (List ℕ) → Type 0
@@ -130,14 +135,23 @@ is_own (Command.Macros ask) = true
 is_own (Command.Macro ask) = true
 is_own command = false
 
+-- whether a command reads out of the status what is then gone (IEEE 488.2, 11.5.1.2; SCPI-1999, 20 and 21.8)
+abbrev pub reads_out : Command → Bool
+reads_out (Command.ReadOut read) = true
+reads_out command = false
+
 -- A command by what it does: a macro command changes the macros and asks nothing else, INITiate starts a scan, and any
--- other is asked.
+-- other is asked. One that reads out what is then gone isn't asked where there is no memory for its answer, and -225 is
+-- queued.
 abbrev pub BeginsBy : Effect → Sid → Bool → Command → Table → List Entry → Begun → Type 0
 BeginsBy IsOfMacros sid answered command t trace b =
     (told : Told) × ActsOnMacros command t told b.macros × Reports sid told trace b.answer b.rest
 BeginsBy Initiates sid answered command t trace b = StartsScan sid trace b.answer b.rest × (b.macros ≡ t)
 BeginsBy Resets sid answered command t trace b =
     Settles sid 0 (Ask.Unit sid command answered) trace b.answer b.rest × (b.macros ≡ table_reset b.answer t)
+BeginsBy (ReadsOut text after) sid answered command t trace b =
+    (Settles sid 0 (Ask.Unit sid command answered) trace b.answer b.rest ⊎ Queues sid OutOfMemory trace b.answer b.rest)
+    × (b.macros ≡ t)
 BeginsBy effect sid answered command t trace b =
     Settles sid 0 (Ask.Unit sid command answered) trace b.answer b.rest × (b.macros ≡ t)
 

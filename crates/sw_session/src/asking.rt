@@ -2,10 +2,11 @@
 
 ghost use Rattle.std.specs.Prelude.{◌≡◌, ◌∷◌, Ok, true, false};
 ghost use Rattle.sw_macro.specs.Table.{Table};
+ghost use Rattle.sw_core.specs.declared.ask.SessionAsk.TheVariants.{Unit};
 ghost use Rattle.sw_core.specs.declared.ask.SessionAnswer.TheVariants.{Hold};
 ghost use Rattle.sw_session.specs.Trace.{Led, Asked};
 ghost use Rattle.sw_session.specs.Talk.{Queues, Settles, Begins, begun_with, Reports, StartsScan, Plans, table_reset};
-ghost use Rattle.sw_session.specs.Talk.{is_done, is_own, after_queueing};
+ghost use Rattle.sw_session.specs.Talk.{is_done, is_own, reads_out, after_queueing};
 
 use crate::desk::{Desk, Wake};
 use crate::macros::{Outcome, act_on_all, act_on_one};
@@ -35,8 +36,7 @@ pub fn ask_command<D: Desk>(
     ensures { (macros : Table) → Led D.passes desk.old desk.new (λ t rest.
         Begins sid answered (Ok command) macros t (begun_with answer.new macros rest)) }
 {
-    let ask = SessionAsk::Unit(sid, command, answered);
-    settle_into(desk, sid, ask, answer);
+    settle_unit(desk, sid, command, answered, answer);
 }
 
 /// Whether a command is the session's own: of macros, the beginning of a scan, or the reset, which switches macros off.
@@ -48,6 +48,13 @@ pub fn is_own(command: &Command) -> bool
         Command::Macros(_) | Command::Macro(_) => true,
         _ => false,
     }
+}
+
+/// Whether a command reads out of the status what is then gone.
+pub fn reads_out(command: &Command) -> bool
+    ensures { result ≡ reads_out command.now }
+{
+    matches!(command, Command::ReadOut(_))
 }
 
 /// Carries out a command of the session's own. `answered` says whether the message has answered before.
@@ -166,6 +173,23 @@ fn settle_into<D: Desk>(desk: &mut D, sid: Sid, ask: SessionAsk, answer: &mut Se
     ensures { Led D.passes desk.old desk.new (λ t rest. Settles sid 0 ask t answer.new rest) }
 {
     desk.ask_into(ask, answer);
+    if let SessionAnswer::Hold(_) = answer {
+        outlast(desk, sid, answer);
+    }
+}
+
+/// Asks for the command of a unit as `settle_into` does.
+#[inline(always)]
+fn settle_unit<D: Desk>(
+    desk: &mut D,
+    sid: Sid,
+    command: Command,
+    answered: bool,
+    answer: &mut SessionAnswer,
+)
+    ensures { Led D.passes desk.old desk.new (λ t rest. Settles sid 0 (Unit sid command answered) t answer.new rest) }
+{
+    desk.ask_unit(sid, command, answered, answer);
     if let SessionAnswer::Hold(_) = answer {
         outlast(desk, sid, answer);
     }

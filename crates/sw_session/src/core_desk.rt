@@ -2,6 +2,7 @@
 
 ghost use Rattle.std.specs.Prelude.{◌≡◌, ◌≤◌, Bool, true, [], ◌∷◌, ◌++◌, None, Some, IfSome, IfNone};
 ghost use Rattle.sw_core.specs.Seen.{AskSeen, work_seen, AskSession, SaysSession};
+ghost use Rattle.sw_core.specs.declared.ask.SessionAsk.TheVariants.{Unit};
 ghost use Rattle.sw_core.specs.Step.{Step, StepBrings};
 ghost use Rattle.sw_session.specs.Available.{followed};
 ghost use Rattle.sw_session.specs.CoreDesk.{IsKept, IsCarried, IsFull, TellsOfPiece, WaitsOut, CorePasses};
@@ -15,6 +16,7 @@ use std::alloc::Global;
 use std::marker::Model;
 use sw_card::{Meter, Relay};
 use sw_core::{Core, SessionAnswer, SessionAsk, Sid, Work};
+use sw_lex::Command;
 
 /// A desk over a mainframe of its own, on one thread. Contracts see the mainframe's panel, the work that is
 /// outstanding, the oldest first, for how much of it there is room, and for which sessions a message is available.
@@ -74,10 +76,12 @@ impl<R: Relay, M: Meter> CoreDesk<R, M> {
         ensures rested { result ≡ true → self.new.work ≡ [] }
     {
         for _turn in 0..u64::MAX {
-            match self.wait(None) {
-                Wake::Again(_) => {}
-                Wake::Over => return true,
-            }
+            let Some(piece) = self.take() else {
+                return true;
+            };
+            let mut work = None;
+            self.carry_out(piece, &mut work);
+            self.keep(work);
         }
         false
     }
@@ -178,7 +182,6 @@ impl<R: Relay, M: Meter> CoreDesk<R, M> {
 
     /// Asks the mainframe what a session asks. Its answer is left in `answer`, and the work that its scan awaits now in
     /// `work`.
-    #[inline(always)]
     fn tell_asked(
         &mut self,
         ask: SessionAsk,
@@ -193,6 +196,27 @@ impl<R: Relay, M: Meter> CoreDesk<R, M> {
         ensures available { self.new.available ≡ self.old.available }
     {
         self.core.ask(self.alloc, ask, answer, work);
+    }
+
+    /// Asks the mainframe what a session asks by the command of a unit, as `tell_asked` does.
+    #[inline(always)]
+    fn tell_unit(
+        &mut self,
+        sid: Sid,
+        command: Command,
+        answered: bool,
+        answer: &mut SessionAnswer,
+        work: &mut Option<Work<M>>,
+    )
+        requires empty { work.old ≡ None }
+        ensures step { (failed : Bool) × Step self.old.panel (AskSession (Unit sid command answered)) failed
+            (SaysSession answer.new (work_seen work.new)) self.new.panel }
+        ensures work { self.new.work ≡ self.old.work }
+        ensures room { self.new.room ≡ self.old.room }
+        ensures available { self.new.available ≡ self.old.available }
+    {
+        self.core
+            .ask_unit(self.alloc, sid, command, answered, answer, work);
     }
 
     /// Follows who joins and who leaves.
@@ -230,12 +254,18 @@ impl<R: Relay, M: Meter> Desk for CoreDesk<R, M> {
         answer
     }
 
-    #[inline(always)]
     fn ask_into(&mut self, ask: SessionAsk, answer: &mut SessionAnswer) {
         let mut work = None;
         let seating = seating_of(&ask);
         self.tell_asked(ask, answer, &mut work);
         self.follow(seating, answer);
+        self.keep(work);
+    }
+
+    #[inline(always)]
+    fn ask_unit(&mut self, sid: Sid, command: Command, answered: bool, answer: &mut SessionAnswer) {
+        let mut work = None;
+        self.tell_unit(sid, command, answered, answer, &mut work);
         self.keep(work);
     }
 

@@ -1,6 +1,7 @@
 //! What takes a session's asks.
 
 use sw_core::{SessionAnswer, SessionAsk, Sid};
+use sw_lex::Command;
 
 /// What a wait ends with.
 #[derive(Clone, Copy, Debug, PartialEq, Eq)]
@@ -25,6 +26,7 @@ pub struct View {
 /// What takes a session's asks.
 pub trait Desk {
     ghost use Rattle.std.specs.Prelude.{◌≡◌, true};
+    ghost use Rattle.sw_core.specs.declared.ask.SessionAsk.TheVariants.{Unit};
     ghost use Rattle.sw_core.specs.declared.ask.SessionAnswer.TheVariants.{Hold};
     ghost use Rattle.sw_session.specs.Trace.{Entry, Asked, Waited, Polled, Noted, HandsBackAsk, LeavesOf};
 
@@ -42,6 +44,15 @@ pub trait Desk {
         ensures back { HandsBackAsk ask answer.new }
     {
         *answer = self.ask(ask);
+    }
+
+    /// Answers the ask for the command of a unit as `ask_into` does. `answered` says whether its message has answered
+    /// before.
+    fn ask_unit(&mut self, sid: Sid, command: Command, answered: bool, answer: &mut SessionAnswer)
+        ensures passes { passes self.old (Asked (Unit sid command answered) answer.new) self.new }
+        ensures back { HandsBackAsk (Unit sid command answered) answer.new }
+    {
+        self.ask_into(SessionAsk::Unit(sid, command, answered), answer);
     }
 
     /// Whether an ask that was held would be held again now, with nothing changed. A desk may answer no at any time.

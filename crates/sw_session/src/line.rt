@@ -1,15 +1,28 @@
 //! The line of answers, kept as a finished line.
 
-ghost use Rattle.std.specs.Prelude.{◌≡◌, ◌+◌, ◌<◌, nat_lt, length, decimal, OnOk, OnErr};
+ghost use Rattle.std.specs.Prelude.{◌≡◌, ◌+◌, ◌<◌, ◌≤◌, ℤ, nat_lt, length, decimal, OnOk, OnErr};
+ghost use Rattle.std.specs.Vec.{vec_capacity};
 ghost use Rattle.sw_base.specs.Limits.{most_answer_bytes};
-ghost use Rattle.sw_session.specs.Talk.{JoinsLine};
+ghost use Rattle.sw_base.specs.Reading.{fixed};
+ghost use Rattle.sw_core.specs.Answers.{entry, entry_told};
+ghost use Rattle.sw_session.specs.Talk.{JoinsLine, opened};
 
 use std::alloc::AllocError;
-use sw_base::{ANSWER_BYTES, Sequence, print_number};
+use sw_base::{
+    ANSWER_BYTES, NO_ERROR, ScpiError, Sequence, print_micros, print_number, print_signed,
+};
 use sw_core::{AnswerForm, AnswerText};
 
 /// For how many bytes a line takes memory at least.
 const ROOM: usize = 64;
+
+/// Takes memory for a short answer, as what is told of a register or of one error, before it is asked for.
+#[inline(always)]
+pub fn make_room(out: &mut Vec<u8>) -> Result<(), AllocError>
+    ensures { out.new.items ≡ out.old.items }
+{
+    out.reserve(ROOM)
+}
 
 /// Adds an answer to those that are written: before it a semicolon, unless it is the first, and after it a line feed.
 /// A growth beyond `ANSWER_BYTES` is refused as one for which there is no memory.
@@ -20,6 +33,9 @@ pub fn join(out: &mut Vec<u8>, text: AnswerText) -> Result<(), AllocError>
 {
     match text.into_form() {
         AnswerForm::Number(n) => join_number(out, n),
+        AnswerForm::Seconds(micros) => join_seconds(out, micros),
+        AnswerForm::Fixed(text) => add(out, text),
+        AnswerForm::Entry(error) => join_entry(out, error),
         AnswerForm::Bytes(text) => join_bytes(out, text),
     }
 }
@@ -34,6 +50,47 @@ fn join_number(out: &mut Vec<u8>, n: u64) -> Result<(), AllocError>
     add(out, &buffer[..end])
 }
 
+/// Adds microseconds as seconds to the answers that are written.
+fn join_seconds(out: &mut Vec<u8>, micros: u64) -> Result<(), AllocError>
+    ensures ok { OnOk result (JoinsLine out.old.items (fixed 6 micros) out.new.items) }
+    ensures err { OnErr result (out.new.items ≡ out.old.items) }
+{
+    let mut buffer = [0; 32];
+    let end = print_micros(micros, &mut buffer);
+    add(out, &buffer[..end])
+}
+
+/// Adds what is told of an entry of the error queue, or that it has none, to the answers that are written.
+fn join_entry(out: &mut Vec<u8>, error: Option<ScpiError>) -> Result<(), AllocError>
+    ensures ok { OnOk result (JoinsLine out.old.items (entry_told error) out.new.items) }
+    ensures err { OnErr result (out.new.items ≡ out.old.items) }
+{
+    match error {
+        Some(error) => add_entry(out, i64::from(error.code()), error.text()),
+        None => add_entry(out, 0, NO_ERROR),
+    }
+}
+
+/// Adds a number, a comma and a text in quotes.
+fn add_entry(out: &mut Vec<u8>, number: i64, words: &str) -> Result<(), AllocError>
+    ensures ok { OnOk result (JoinsLine out.old.items (entry number words.now) out.new.items) }
+    ensures err { OnErr result (out.new.items ≡ out.old.items) }
+{
+    let mut buffer = [0; 32];
+    let end = print_signed(number, &mut buffer);
+    let words = words.as_bytes();
+    let size = words.len().saturating_add(end + 3);
+    if !has_room(out, size) {
+        return Err(AllocError);
+    }
+    open(out, size)?;
+    out.extend_from_slice(&buffer[..end]).unwrap();
+    out.extend_from_slice(b",\"").unwrap();
+    out.extend_from_slice(words).unwrap();
+    out.extend_from_slice(b"\"\n").unwrap();
+    Ok(())
+}
+
 /// Adds these bytes to the answers that are written. The memory of a first answer that the line has no room for becomes
 /// the line's.
 #[inline(never)]
@@ -44,7 +101,7 @@ fn join_bytes(out: &mut Vec<u8>, text: Sequence<u8>) -> Result<(), AllocError>
     if !out.is_empty() || text.as_slice().len() < out.capacity() {
         return add(out, text.as_slice());
     }
-    if !has_room(out, text.as_slice()) {
+    if !has_room(out, text.as_slice().len()) {
         return Err(AllocError);
     }
     let mut line = text.into_vec();
@@ -54,11 +111,12 @@ fn join_bytes(out: &mut Vec<u8>, text: Sequence<u8>) -> Result<(), AllocError>
     Ok(())
 }
 
-/// Whether there is room for one more answer beside those that are written, with the byte that goes before or after it.
-fn has_room(out: &[u8], text: &[u8]) -> bool
-    ensures { result ≡ nat_lt (length out.now + length text.now) most_answer_bytes }
+/// Whether there is room for one more answer of so many bytes beside those that are written, with the byte that goes
+/// before or after it.
+fn has_room(out: &[u8], size: usize) -> bool
+    ensures { result ≡ nat_lt (length out.now + size) most_answer_bytes }
 {
-    out.len().saturating_add(text.len()) < ANSWER_BYTES
+    out.len().saturating_add(size) < ANSWER_BYTES
 }
 
 /// Adds a text in the line's own memory.
@@ -66,40 +124,29 @@ fn add(out: &mut Vec<u8>, text: &[u8]) -> Result<(), AllocError>
     ensures ok { OnOk result (JoinsLine out.old.items text.now out.new.items) }
     ensures err { OnErr result (out.new.items ≡ out.old.items) }
 {
-    if !has_room(out, text) {
+    if !has_room(out, text.len()) {
         return Err(AllocError);
     }
-    if out.is_empty() {
-        begin(out, text)
-    } else {
-        add_next(out, text)
-    }
-}
-
-/// Begins the line by a text.
-fn begin(out: &mut Vec<u8>, text: &[u8]) -> Result<(), AllocError>
-    requires none { length out.old.items ≡ 0 }
-    requires room { length text.now < most_answer_bytes }
-    ensures ok { OnOk result (JoinsLine out.old.items text.now out.new.items) }
-    ensures err { OnErr result (out.new.items ≡ out.old.items) }
-{
-    out.reserve(ROOM.max(text.len() + 1))?;
+    open(out, text.len())?;
     out.extend_from_slice(text).unwrap();
     out.push(b'\n').unwrap();
     Ok(())
 }
 
-/// Adds a text behind the answers that are written.
-fn add_next(out: &mut Vec<u8>, text: &[u8]) -> Result<(), AllocError>
-    requires some { 0 < length out.old.items }
-    requires room { length out.old.items + length text.now < most_answer_bytes }
-    ensures ok { OnOk result (JoinsLine out.old.items text.now out.new.items) }
+/// Opens the line for an answer of so many bytes and its line feed: a semicolon stands in place of the last line feed,
+/// and there is room for them.
+#[inline(always)]
+fn open(out: &mut Vec<u8>, size: usize) -> Result<(), AllocError>
+    requires { length out.old.items + size < most_answer_bytes }
+    ensures ok { OnOk result (out.new.items ≡ opened out.old.items) }
+    ensures room { OnOk result (length out.new.items + size + 1 ≤ vec_capacity out.new) }
     ensures err { OnErr result (out.new.items ≡ out.old.items) }
 {
-    out.reserve(text.len() + 1)?;
+    if out.is_empty() {
+        return out.reserve(ROOM.max(size + 1));
+    }
+    out.reserve(size + 1)?;
     let _ = out.pop();
     out.push(b';').unwrap();
-    out.extend_from_slice(text).unwrap();
-    out.push(b'\n').unwrap();
     Ok(())
 }

@@ -7,10 +7,11 @@ ghost use Rattle.sw_lex.specs.Meaning.{Nodes, path_of};
 ghost use Rattle.sw_macro.specs.Table.{Table, no_macros};
 ghost use Rattle.sw_session.specs.Talk.{Talked, TalksLine, OnLine, Itself, Expanded, ServesUnit, ConcludesLine};
 ghost use Rattle.sw_session.specs.Talk.{state, talker_at, after_unit, is_command_error, TellsAnswered, is_own};
+ghost use Rattle.sw_session.specs.Talk.{reads_out};
 
-use crate::asking::{ask_command, carry_own, is_own, queue};
+use crate::asking::{ask_command, carry_own, is_own, queue, reads_out};
 use crate::desk::Desk;
-use crate::line::join;
+use crate::line::{join, make_room};
 use std::alloc::Global;
 use std::mem;
 use sw_base::{MESSAGE_BYTES, ScpiError};
@@ -53,7 +54,7 @@ impl Talker {
     /// from -100 to -199 drops the rest of the message, any other its unit alone. Where the desk answers that the
     /// session is being cleared, is joined no more, or that nothing more can be numbered, nothing is written. An answer
     /// or an expansion that finds no memory is dropped, with error -225, as is an answer with which the line would have
-    /// more than `ANSWER_BYTES`.
+    /// more than `ANSWER_BYTES`. What a query takes out of the status isn't asked for then, so that it stays.
     pub fn message<D: Desk>(&mut self, text: &[u8], desk: &mut D) -> Vec<u8>
         ensures talked { Talked D.passes self.old.sid (state desk.old self.old.macros)
             text.now result.items (state desk.new self.new.macros) }
@@ -195,9 +196,32 @@ impl Talker {
             (λ s s'. ServesUnit self.old.sid (Ok command) s result s') }
         ensures same { self.new.sid ≡ self.old.sid }
     {
+        if lacks_room(&command, out) {
+            return self.serve_unread(desk, command, out);
+        }
         let answered = has_answers(out);
         let mut answer = SessionAnswer::Stranger;
         ask_command(desk, self.sid, command, answered, &mut answer);
+        conclude(desk, self.sid, &mut answer, out)
+    }
+
+    /// Serves a unit that is this command, for whose answer there is no memory: so nothing is read out.
+    #[inline(never)]
+    fn serve_unread<D: Desk>(
+        &mut self,
+        desk: &mut D,
+        command: Command,
+        out: &mut Vec<u8>,
+    ) -> AfterUnit
+        requires { reads_out command ≡ true }
+        ensures serves { (path : Nodes) → OnLine D.passes
+            (talker_at desk.old path self.old.macros out.old.items)
+            (talker_at desk.new path self.new.macros out.new.items)
+            (λ s s'. ServesUnit self.old.sid (Ok command) s result s') }
+        ensures same { self.new.sid ≡ self.old.sid }
+    {
+        drop(command);
+        let mut answer = queue(desk, self.sid, ScpiError::OutOfMemory);
         conclude(desk, self.sid, &mut answer, out)
     }
 
@@ -341,6 +365,15 @@ fn has_answers(out: &[u8]) -> bool
     ensures { TellsAnswered out.now result }
 {
     !out.is_empty()
+}
+
+/// Whether a command reads out what is then gone, and there is no memory for its answer.
+#[inline(always)]
+fn lacks_room(command: &Command, out: &mut Vec<u8>) -> bool
+    ensures reads { result ≡ true → reads_out command.now ≡ true }
+    ensures same { out.new.items ≡ out.old.items }
+{
+    reads_out(command) && make_room(out).is_err()
 }
 
 /// Adds a unit's answer to those that are written, and takes its text out. Where there is no room or no memory for it,

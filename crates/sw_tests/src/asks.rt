@@ -5,7 +5,7 @@
 //! its drop would be written out for each of its variants.
 
 use std::alloc::Global;
-use sw_base::{ScpiError, print_number};
+use sw_base::{ScpiError, print_micros, print_number};
 use sw_cage::{EjectRefusal, InstallRefusal, Job, Ticket};
 use sw_card::{Card, Meter, Relay};
 use sw_core::{Answer, AnswerForm, Ask, Core, SessionAnswer, SessionAsk, Sid, Work};
@@ -250,6 +250,22 @@ fn is_written(form: AnswerForm, text: &[u8]) -> bool {
             let end = print_number(n, &mut buffer);
             &buffer[..end] == text
         }
+        AnswerForm::Seconds(micros) => {
+            let mut buffer = [0; 32];
+            let end = print_micros(micros, &mut buffer);
+            &buffer[..end] == text
+        }
+        AnswerForm::Fixed(words) => words == text,
+        AnswerForm::Entry(error) => is_entry(error, text),
+    }
+}
+
+/// Whether a text ends with that of an error in quotes, or tells that there is none.
+fn is_entry(error: Option<ScpiError>, text: &[u8]) -> bool {
+    match (error, text) {
+        (Some(error), [front @ .., b'"']) => front.ends_with(error.text().as_bytes()),
+        (None, text) => text == b"0,\"No error\"",
+        _ => false,
     }
 }
 

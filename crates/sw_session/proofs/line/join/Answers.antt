@@ -1,6 +1,8 @@
 use Rattle.std.proofs.Common.{◌≡◌, ◌∙◌, sym, ap, subst, decimal, List, ℕ}
 use Rattle.std.specs.Prelude.{OnOk}
+use Rattle.sw_base.specs.Reading.{fixed}
 use Rattle.sw_core.specs.AnswerText.{form_text}
+use Rattle.sw_core.specs.Answers.{entry_told}
 use Rattle.sw_session.specs.Talk.{JoinsLine}
 use Rattle.sw_session.proofs.line.join.Goals as goal
 
@@ -8,6 +10,21 @@ pub returns-in-Number-clause-ok : goal.returns-in-Number-clause-ok
 returns-in-Number-clause-ok c =
     let is : decimal c.in-Number.n ≡ c.args.text = sym (ap form_text c.in-Number.is) ∙ c.into_form.ensures in
     subst (λ (t : List ℕ). OnOk c.join_number.result (JoinsLine c.args.out.now.items t c.join_number.new.out.items)) is c.join_number.ensures.ok
+
+pub returns-in-Seconds-clause-ok : goal.returns-in-Seconds-clause-ok
+returns-in-Seconds-clause-ok c =
+    let is : fixed 6 c.in-Seconds.micros ≡ c.args.text = sym (ap form_text c.in-Seconds.is) ∙ c.into_form.ensures in
+    subst (λ (t : List ℕ). OnOk c.join_seconds.result (JoinsLine c.args.out.now.items t c.join_seconds.new.out.items)) is c.join_seconds.ensures.ok
+
+pub returns-in-Fixed-clause-ok : goal.returns-in-Fixed-clause-ok
+returns-in-Fixed-clause-ok c =
+    let is : c.in-Fixed.text.now ≡ c.args.text = sym (ap form_text c.in-Fixed.is) ∙ c.into_form.ensures in
+    subst (λ (t : List ℕ). OnOk c.add.result (JoinsLine c.args.out.now.items t c.add.new.out.items)) is c.add.ensures.ok
+
+pub returns-in-Entry-clause-ok : goal.returns-in-Entry-clause-ok
+returns-in-Entry-clause-ok c =
+    let is : entry_told c.in-Entry.error ≡ c.args.text = sym (ap form_text c.in-Entry.is) ∙ c.into_form.ensures in
+    subst (λ (t : List ℕ). OnOk c.join_entry.result (JoinsLine c.args.out.now.items t c.join_entry.new.out.items)) is c.join_entry.ensures.ok
 
 pub returns-in-Bytes-clause-ok : goal.returns-in-Bytes-clause-ok
 returns-in-Bytes-clause-ok c =

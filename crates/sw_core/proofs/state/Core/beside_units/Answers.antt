@@ -8,7 +8,7 @@ use Rattle.sw_core.specs.Sessions.{SessionsSeen, IsJoined, is_clearing}
 use Rattle.sw_core.specs.Seen.{work_seen}
 use Rattle.sw_core.specs.Step.{StepSession}
 use Rattle.sw_core.proofs.AnsweredLemmas.{admitted}
-use Rattle.sw_core.proofs.state.Core.session.Goals as goal
+use Rattle.sw_core.proofs.state.Core.beside_units.Goals as goal
 
 pub returns : goal.returns
 returns g c =
