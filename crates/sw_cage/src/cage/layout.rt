@@ -22,7 +22,7 @@ impl<R: Relay, M: Meter> Cage<R, M> {
         let _ = &self.slots;
         let mut bays = Vec::with_capacity(alloc, SLOT_PLACES)?;
         for before in 0..SLOTS {
-            bays.push(self.contents(alloc, before + 1)?)?;
+            bays.push_reserved(self.contents(alloc, before + 1)?);
         }
         Ok(Layout::new(bays))
     }

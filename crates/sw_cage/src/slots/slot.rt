@@ -245,7 +245,7 @@ fn groups<R: Relay, M: Meter>(alloc: Global, card: &Card<R, M>) -> Result<Vec<u8
     let count = card.channels();
     let mut groups = Vec::with_capacity(alloc, count as usize)?;
     for before in 0..count {
-        groups.push(card.group(before + 1))?;
+        groups.push_reserved(card.group(before + 1));
     }
     Ok(groups)
 }
