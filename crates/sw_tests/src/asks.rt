@@ -264,7 +264,7 @@ fn is_written(form: AnswerForm, text: &[u8]) -> bool {
 fn is_entry(error: Option<ScpiError>, text: &[u8]) -> bool {
     match (error, text) {
         (Some(error), [front @ .., b'"']) => front.ends_with(error.text().as_bytes()),
-        (None, text) => text == b"0,\"No error\"",
+        (None, text) => text == b"0,\"No error\"".as_slice(),
         _ => false,
     }
 }
