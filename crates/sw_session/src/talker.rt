@@ -54,7 +54,8 @@ impl Talker {
     /// from -100 to -199 drops the rest of the message, any other its unit alone. Where the desk answers that the
     /// session is being cleared, is joined no more, or that nothing more can be numbered, nothing is written. An answer
     /// or an expansion that finds no memory is dropped, with error -225, as is an answer with which the line would have
-    /// more than `ANSWER_BYTES`. What a query takes out of the status isn't asked for then, so that it stays.
+    /// more than `ANSWER_BYTES`. Where there is no memory for it, one register or one error that a query would take out
+    /// of the status isn't asked for, so that it stays.
     pub fn message<D: Desk>(&mut self, text: &[u8], desk: &mut D) -> Vec<u8>
         ensures talked { Talked D.passes self.old.sid (state desk.old self.old.macros)
             text.now result.items (state desk.new self.new.macros) }

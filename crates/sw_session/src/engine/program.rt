@@ -10,6 +10,7 @@ ghost use Rattle.sw_session.specs.EngineSync.{Finishes, Converses, Answers, Cuts
 ghost use Rattle.sw_session.specs.EngineSync.{SaysMore};
 ghost use Rattle.sw_session.specs.EngineSync.{is_program};
 ghost use Rattle.sw_session.specs.EngineKinds.{sync_request};
+ghost use Rattle.sw_session.specs.EngineMessages.{tells_delivery};
 ghost use Rattle.sw_session.specs.EngineSync.{FallsShort, FaltersSync};
 ghost use Rattle.sw_session.specs.declared.engine.step.Channel.TheVariants.{Synchronous};
 
@@ -18,7 +19,7 @@ use crate::engine::answers::{Parts, room_of};
 use crate::engine::partial_message::{PartialMessage, is_within, skipped, whole, with_part};
 use crate::engine::refusals::{ErrorCode, FatalCode, error};
 use crate::engine::requests::{SyncRequest, is_program, sync_request};
-use crate::engine::responses::plain;
+use crate::engine::responses::{plain, tells_delivery};
 use crate::engine::step::{Channel, Reply, Sent, Step, step_of};
 use crate::engine::synchronous::{Delivery, attend, complete, deliver, trigger};
 use crate::talker::Talker;
@@ -90,11 +91,12 @@ impl SyncSession {
         ensures err { OnErr result (LedBy D.passes desk.old desk.new (λ asked. FaltersSync self.old message asked)) }
         ensures same { self.new.sid ≡ self.old.sid }
     {
-        let room = Vec::with_capacity(alloc, 2)?;
         let request = sync_request(message.kind);
         if is_program(request) {
+            let room = room_for(alloc, self.attached, message.control)?;
             return self.program(alloc, request, message, room, desk);
         }
+        let room = Vec::with_capacity(alloc, 1)?;
         drop(message);
         let reply = self.reply(alloc, request, desk);
         Ok(step_of(alloc, Channel::Synchronous, room, reply))
@@ -143,7 +145,8 @@ impl SyncSession {
     ) -> Result<Step, AllocError>
         requires program { is_program request ≡ true }
         requires empty { room.items ≡ [] }
-        requires room { 2 ≤ vec_capacity room }
+        requires fresh { self.old.attached ≡ false → 2 ≤ vec_capacity room }
+        requires untaken { tells_delivery message.control ≡ false → 2 ≤ vec_capacity room }
         ensures ok { IfOk result (λ step. LedBy D.passes desk.old desk.new (λ asked.
             ServesProgram false request self.old message asked step self.new)) }
         ensures err { OnErr result (LedBy D.passes desk.old desk.new (λ asked.
@@ -173,7 +176,7 @@ impl SyncSession {
     ) -> Result<Step, AllocError>
         requires program { is_program request ≡ true }
         requires empty { room.items ≡ [] }
-        requires room { 2 ≤ vec_capacity room }
+        requires untaken { tells_delivery message.control ≡ false → 2 ≤ vec_capacity room }
         ensures ok { IfOk result (λ step. LedBy D.passes desk.old desk.new (λ asked.
             Attended false request self.old message asked step self.new)) }
         ensures err { OnErr result (LedBy D.passes desk.old desk.new (λ asked.
@@ -183,7 +186,7 @@ impl SyncSession {
         match deliver(self.sid, message.control, desk) {
             Delivery::Gone => {
                 drop(message);
-                Ok(step_of(alloc, Channel::Synchronous, room, Reply::Leaves))
+                Ok(told(room, true))
             }
             delivery => {
                 let said = interruption(alloc, room, message.parameter, delivery);
@@ -281,6 +284,19 @@ impl SyncSession {
     }
 }
 
+/// Room for what may have to be said before a message of a program is served: none where the second channel was seen to
+/// stand, and the client has taken the last answer.
+fn room_for(alloc: Global, attached: bool, control: u8) -> Result<Vec<Sent>, AllocError>
+    ensures empty { IfOk result (λ room. room.items ≡ []) }
+    ensures fresh { attached ≡ false → IfOk result (λ room. 2 ≤ vec_capacity room) }
+    ensures untaken { tells_delivery control ≡ false → IfOk result (λ room. 2 ≤ vec_capacity room) }
+{
+    if attached && tells_delivery(control) {
+        return Ok(Vec::new(alloc));
+    }
+    Vec::with_capacity(alloc, 2)
+}
+
 /// Whether the channel ends with a reply.
 fn ends(reply: &Reply) -> bool
     ensures { result ≡ (reply_step Synchronous reply.now).ends }
@@ -298,7 +314,7 @@ fn told(said: Vec<Sent>, ends: bool) -> Step
 /// The messages of an interrupt, where there was one.
 fn interruption(alloc: Global, room: Vec<Sent>, id: u32, delivery: Delivery) -> Vec<Sent>
     requires empty { room.items ≡ [] }
-    requires room { 2 ≤ vec_capacity room }
+    requires room { delivery ≡ Delivery.Interrupted → 2 ≤ vec_capacity room }
     ensures { result.items ≡ said_by_delivery id delivery }
 {
     let mut said = room;

@@ -1,7 +1,8 @@
 //! What the synchronous channel asks of a desk beside program messages: its session, whether the second channel stands,
 //! what became of the last answer, a trigger, the end of a device clear.
 
-ghost use Rattle.std.specs.Prelude.{◌≡◌, ℕ, true, [], IfSome};
+ghost use Rattle.std.specs.Prelude.{◌≡◌, ℕ, true, false, [], IfSome};
+ghost use Rattle.sw_session.specs.EngineMessages.{tells_delivery};
 ghost use Rattle.sw_session.specs.Trace.{Led};
 ghost use Rattle.sw_session.specs.EngineStep.{LedBy, is_gone, reply_step};
 ghost use Rattle.sw_session.specs.EngineSync.{OpensSync, JoinsAt, is_first, AsksToJoin, joins_step, joins_session};
@@ -90,6 +91,7 @@ fn joined(answer: SessionAnswer) -> Result<Sid, Reply>
 /// served; the channel ends with it.
 pub fn attend<D: Desk>(sid: Sid, attached: bool, desk: &mut D) -> Option<Reply>
     ensures led { Led D.passes desk.old desk.new (λ t rest. Attends attached sid t (gate_step result) rest) }
+    ensures fresh { IfSome result (λ _. attached ≡ false) }
     ensures ends { IfSome result (λ reply. (reply_step Synchronous reply).ends ≡ true) }
 {
     if attached {
@@ -116,8 +118,9 @@ fn attended(answer: SessionAnswer) -> Option<Reply>
 /// Looks at the last answer before a message with this control code is served: one that is available and wasn't taken
 /// is dropped, with error -410.
 pub fn deliver<D: Desk>(sid: Sid, control: u8, desk: &mut D) -> Delivery
-    ensures { (id : ℕ) → Led D.passes desk.old desk.new (λ t rest.
+    ensures delivers { (id : ℕ) → Led D.passes desk.old desk.new (λ t rest.
         Delivers sid control id t (delivery_step id result) rest) }
+    ensures untaken { result ≡ Delivery.Interrupted → tells_delivery control ≡ false }
 {
     if tells_delivery(control) {
         desk.note(sid, false);
