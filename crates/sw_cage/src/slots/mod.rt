@@ -204,10 +204,7 @@ impl<R: Relay, M: Meter> Slots<R, M> {
         requires { is_present (layout_of (accounts_of self.now)) chan ≡ true }
         ensures { result ≡ group_of (layout_of (accounts_of self.now)) chan }
     {
-        match &self.slots[chan.slot() as usize - 1].card {
-            Some(card) => card.group(chan.ch()),
-            None => unreachable!(),
-        }
+        slot::group_in(&self.slots[chan.slot() as usize - 1], chan.ch())
     }
 
     /// Whether the cage has every channel of the list.
@@ -372,7 +369,7 @@ impl<R: Relay, M: Meter> Slots<R, M> {
         ensures account { accounts_of self.new ≡ slice_set (accounts_of self.old) (slot - 1) (Some (of_meter meter.1)) }
     {
         let had_none = self.slots[slot as usize - 1].closed().is_empty();
-        self.slots[slot as usize - 1] = CageSlot::with_meter(meter);
+        slot::put_meter(&mut self.slots[slot as usize - 1], meter);
         if had_none {
             return;
         }
