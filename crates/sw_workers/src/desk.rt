@@ -181,6 +181,7 @@ impl<H: Mainframe, R: Relay, M: Meter, G: Gate + Drop, W: Wait + Clock + Copy + 
 
     /// Asks the mainframe. The desk of a session's synchronous channel, which is the one that joined, leaves in the
     /// session's slot what it has then seen, until the session has left.
+    #[inline(always)]
     fn act(&mut self, ask: Ask<R, M>) -> Answer<R, M>
         ensures { AsksOnce H.first (ask_seen ask) (answer_seen result) self.old.part self.new.part }
     {

@@ -284,6 +284,7 @@ impl<H: Mainframe, R: Relay, M: Meter> Held<H, R, M> {
 
     /// Asks the mainframe, and takes another turn where what was held may go on: where the turn stays, all that was
     /// held is held still.
+    #[inline(always)]
     pub fn act(&mut self, part: &mut DeskPart<H>, ask: Ask<R, M>) -> Answer<R, M>
         ensures once { AsksOnce H.first (ask_seen ask) (answer_seen result) part.old part.new }
         ensures waits { self.new.turn ≡ self.old.turn → HoldsOn self.old.panel self.new.panel }
@@ -322,6 +323,7 @@ impl<H: Mainframe, R: Relay, M: Meter> Held<H, R, M> {
     /// Asks the mainframe. An event is published, stands in the history as one more entry of the desk, and is noted; if
     /// it is numbered it counts in the desk's share, once. The desk's seat has then seen the whole history.
     #[tactic(auto, using(crate::proofs::CountedLemmas::step_counted))]
+    #[inline(always)]
     pub fn ask(&mut self, part: &mut DeskPart<H>, ask: Ask<R, M>) -> Answer<R, M>
         ensures step { Step self.old.panel (ask_seen ask)
             (failed_in (ask_seen ask) (answer_seen result) self.old.panel.cage.cards self.new.panel.cage.cards)

@@ -54,6 +54,11 @@ impl Line {
             .set_read_timeout(Some(Duration::from_millis(ms as u64)))
     }
 
+    /// From now on a read waits for bytes as long as it takes.
+    pub fn listen_long(&self) {
+        let _ = self.wire.stream.set_read_timeout(None);
+    }
+
     /// From now on a write waits for room as long as it takes.
     pub fn be_patient(&self) {
         let _ = self.wire.stream.set_write_timeout(None);

@@ -292,6 +292,13 @@ impl Place {
         }
     }
 
+    /// From now on a read of the line waits for bytes as long as it takes.
+    pub fn listen_long<W: Wait>(&self, rt: &W) {
+        if let Some(line) = self.line(rt) {
+            line.listen_long();
+        }
+    }
+
     /// Ends the line: reads come to its end.
     fn end_line<W: Wait>(&self, rt: &W) {
         if let Some(line) = self.line(rt) {

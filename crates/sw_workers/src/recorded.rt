@@ -82,6 +82,7 @@ impl<B: Recording, R: Relay, M: Meter> Recorded<B, R, M> {
 
     /// Asks the mainframe. An event is published and stands in the history as one more entry of the desk; what is no
     /// event changes nothing. The desk has then seen the whole history.
+    #[inline(always)]
     pub fn ask(&mut self, alloc: Global, desk: &mut StatusSeat<B>, ask: Ask<R, M>) -> Answer<R, M>
         requires desk { (d : ℕ) × (desk.old.desk ≡ Some d) }
         ensures step { Step self.old.panel (ask_seen ask)

@@ -26,8 +26,8 @@ use sw_session::{
     Channel, Desk, ServeFault, Sink, Source, TURNS, Unread, Unwritten, serve_async, serve_sync,
 };
 
-/// How long a read lasts at most, in milliseconds: service requests are told then, and a connection that has stood for
-/// too long ends.
+/// How long a read lasts at most, in milliseconds: service requests are told then on a second channel, and a connection
+/// that has stood for too long ends.
 const LIMIT_MS: u32 = 100;
 
 /// How a connection was served.
@@ -248,6 +248,7 @@ fn serve_parts<H: Mainframe, C: Connection, D: Desk + Drop, W: Wait + Clock + Co
         reader: ReadAhead::new(header, failed, reader),
         place,
         rt,
+        channel,
         is_paired: false,
     };
     match channel {

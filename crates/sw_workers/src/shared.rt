@@ -163,6 +163,7 @@ impl<H: Mainframe, R: Relay, M: Meter, G: Gate + Drop> Shared<H, R, M, G> {
     }
 
     /// Asks under the lock, and wakes those who wait where they may go on. It gives the turn after that too.
+    #[inline(always)]
     pub fn act<W: Wait>(
         &self,
         rt: &W,
