@@ -204,7 +204,10 @@ impl<R: Relay, M: Meter> Slots<R, M> {
         requires { is_present (layout_of (accounts_of self.now)) chan ≡ true }
         ensures { result ≡ group_of (layout_of (accounts_of self.now)) chan }
     {
-        slot::group_in(&self.slots[chan.slot() as usize - 1], chan.ch())
+        match &self.slots[chan.slot() as usize - 1].card {
+            Some(card) => card.group(chan.ch()),
+            None => unreachable!(),
+        }
     }
 
     /// Whether the cage has every channel of the list.
@@ -369,7 +372,7 @@ impl<R: Relay, M: Meter> Slots<R, M> {
         ensures account { accounts_of self.new ≡ slice_set (accounts_of self.old) (slot - 1) (Some (of_meter meter.1)) }
     {
         let had_none = self.slots[slot as usize - 1].closed().is_empty();
-        slot::put_meter(&mut self.slots[slot as usize - 1], meter);
+        self.slots[slot as usize - 1] = CageSlot::with_meter(meter);
         if had_none {
             return;
         }

@@ -10,8 +10,7 @@ ghost use Rattle.sw_cage.specs.Accounts.{option_rest, OptionWellFormed};
 ghost use Rattle.sw_cage.specs.Accounts.{all_open, is_closed, IsSlotFault};
 ghost use Rattle.sw_cage.specs.Cards.{meter_only, meters_of};
 ghost use Rattle.sw_cage.specs.Install.{IsUnfit};
-ghost use Rattle.sw_base.specs.Layout.{group_at, contents_group};
-ghost use Rattle.sw_cage.specs.Masks.{IsSlotMask, KnowsGroups};
+ghost use Rattle.sw_cage.specs.Masks.{IsSlotMask};
 
 use std::alloc::{AllocError, Global};
 use std::marker::Model;
@@ -19,54 +18,24 @@ use sw_base::{CHANNELS, Chan};
 use sw_card::{Card, CardFault, Mask, Meter, MeterCard, Relay};
 use sw_verify::Slot;
 
-/// The groups of a card's first channels, so that a card is asked for them once.
-#[derive(Clone, Copy, Drop)]
-pub(super) struct KnownGroups {
-    /// Of how many channels they are known.
-    count: u8,
-    by_channel: [u8; CHANNELS as usize],
-}
-
-impl KnownGroups {
-    /// None is known.
-    const NONE: Self = KnownGroups {
-        count: 0,
-        by_channel: [0; CHANNELS as usize],
-    };
-
-    /// Those of a card.
-    fn of<R: Relay, M: Meter>(card: &Card<R, M>) -> Self
-        ensures { KnowsGroups result.count result.by_channel (Some card.now.1) }
-    {
-        let count = card.channels().min(CHANNELS);
-        let mut by_channel = [0; CHANNELS as usize];
-        for before in 0..count {
-            by_channel[before as usize] = card.group(before + 1);
-        }
-        KnownGroups { count, by_channel }
-    }
-}
-
-/// A slot: its card, if it has one, which of the card's channels are closed, and their groups. Contracts see the card.
+/// A slot: its card, if it has one, and which of the card's channels are closed. Contracts see the card.
 #[derive(Drop)]
 pub(super) struct CageSlot<R: Relay, M: Meter> {
     pub(super) card: Option<Card<R, M>>,
     closed: Mask,
-    known: KnownGroups,
 }
 
 impl<R: Relay, M: Meter> Model for CageSlot<R, M> {
     ghost use Rattle.std.specs.Prelude.{◌⊎◌, Option};
     ghost use Rattle.sw_card.specs.Account.{Account};
     ghost use Rattle.sw_cage.specs.Accounts.{option_account};
-    ghost use Rattle.sw_cage.specs.Masks.{IsSlotMask, KnowsGroups};
+    ghost use Rattle.sw_cage.specs.Masks.{IsSlotMask};
 
     ghost Value = { Option ((R ⊎ M) × Account) };
 
     ghost view = { λ p. p.card };
 
-    ghost invariant = { λ p. IsSlotMask p.closed (option_account p.card)
-        × KnowsGroups p.known.count p.known.by_channel (option_account p.card) };
+    ghost invariant = { λ p. IsSlotMask p.closed (option_account p.card) };
 }
 
 impl<R: Relay, M: Meter> CageSlot<R, M> {
@@ -77,7 +46,6 @@ impl<R: Relay, M: Meter> CageSlot<R, M> {
         CageSlot {
             card: None,
             closed: Mask::new(),
-            known: KnownGroups::NONE,
         }
     }
 
@@ -86,11 +54,19 @@ impl<R: Relay, M: Meter> CageSlot<R, M> {
         ensures { result ≡ Some card }
     {
         let closed = card.closed_mask();
-        let known = KnownGroups::of(&card);
         CageSlot {
             card: Some(card),
             closed,
-            known,
+        }
+    }
+
+    /// A slot with this meter, which has no channels to ask for.
+    pub(super) fn with_meter(meter: MeterCard<M>) -> Self
+        ensures { result ≡ Some (inr meter.0, of_meter meter.1) }
+    {
+        CageSlot {
+            card: Some(Card::of_meter(meter)),
+            closed: Mask::new(),
         }
     }
 
@@ -243,32 +219,6 @@ pub(super) fn closed_in<R: Relay, M: Meter>(slots: &[CageSlot<R, M>], chan: Chan
 {
     let slot = &slots[chan.slot() as usize - 1];
     slot.closed.has(chan.ch())
-}
-
-/// The group of a channel of the card in the slot.
-#[inline(always)]
-pub(super) fn group_in<R: Relay, M: Meter>(slot: &CageSlot<R, M>, ch: u8) -> u8
-    requires range { (1 ≤ ch) × (ch ≤ most_channels) }
-    requires present { contents_have (slot_contents (option_account slot.now)) ch ≡ true }
-    ensures { result ≡ contents_group (slot_contents (option_account slot.now)) ch }
-{
-    if ch <= slot.known.count {
-        return slot.known.by_channel[ch as usize - 1];
-    }
-    match &slot.card {
-        Some(card) => card.group(ch),
-        None => unreachable!(),
-    }
-}
-
-/// Puts this meter, which has no channels to ask for, into the slot, in the place of what was there.
-#[inline(always)]
-pub(super) fn put_meter<R: Relay, M: Meter>(slot: &mut CageSlot<R, M>, meter: MeterCard<M>)
-    ensures { slot.new ≡ Some (inr meter.0, of_meter meter.1) }
-{
-    slot.card = Some(Card::of_meter(meter));
-    slot.closed = Mask::new();
-    slot.known.count = 0;
 }
 
 /// Takes the meter out of the slot.

@@ -1,6 +1,5 @@
-use Rattle.std.proofs.Common.{rules}
 use Rattle.sw_cage.proofs.MaskLemmas.{mask_read}
 use Rattle.sw_cage.proofs.slots.slot.open_in.Goals as goal
 
 pub invariant_of-slot-in-Err : goal.invariant_of-slot-in-Err
-invariant_of-slot-in-Err g c = (mask_read c.open.new.self.1 c.closed_mask-slot-inside.result c.closed_mask-slot-inside.ensures, search rules)
+invariant_of-slot-in-Err g c = mask_read c.open.new.self.1 c.closed_mask-slot-inside.result c.closed_mask-slot-inside.ensures
