@@ -136,6 +136,11 @@ impl Decoder {
         ensures lean { IsLean self.new }
     {
         self.taken += count;
+        if self.taken == self.buffer.len() {
+            self.buffer.clear();
+            self.taken = 0;
+            return;
+        }
         if self.taken > self.buffer.len() - self.taken {
             let _ = self.buffer.drain(..self.taken);
             self.taken = 0;

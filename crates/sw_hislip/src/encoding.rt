@@ -11,11 +11,22 @@ use std::alloc::{AllocError, Global};
 pub fn encode(alloc: Global, message: &Message) -> Result<Vec<u8>, AllocError>
     ensures { IfOk result (λ bytes. bytes.items ≡ wire message.now) }
 {
+    let mut bytes = Vec::new(alloc);
+    encode_into(message, &mut bytes)?;
+    Ok(bytes)
+}
+
+/// Leaves the wire form of a message in `bytes`, in place of what was there, whose memory is used again. Only want of
+/// memory is refused.
+pub fn encode_into(message: &Message, bytes: &mut Vec<u8>) -> Result<(), AllocError>
+    ensures { IfOk result (λ _. bytes.new.items ≡ wire message.now) }
+{
     let payload = message.payload.as_slice();
-    let mut bytes = Vec::with_capacity(alloc, payload.len().saturating_add(HEADER))?;
+    bytes.clear();
+    bytes.reserve(payload.len().saturating_add(HEADER))?;
     bytes.extend_from_slice(&[b'H', b'S', message.kind.number(), message.control])?;
     bytes.extend_from_slice(&message.parameter.to_be_bytes())?;
     bytes.extend_from_slice(&(payload.len() as u64).to_be_bytes())?;
     bytes.extend_from_slice(payload)?;
-    Ok(bytes)
+    Ok(())
 }

@@ -1,11 +1,11 @@
 //! HiSLIP messages as bytes, and the locks of an instrument (IVI-6.1 HiSLIP, protocol version 1.0).
 //!
-//! The contract to the layers above: `encode` writes the one wire form of a message, `wire`. A `Decoder` is fed the
-//! bytes of a connection in any pieces and gives its messages one by one: up to a rest that is no whole message the
-//! stream is these messages and no others, however it was cut (`every_message_comes_out`, `nothing_whole_is_left`,
-//! `one_stream`, `cuts_do_not_matter`). A wrong prologue and a payload that is too large are told only where they stand
-//! in a message's place. Nothing is kept of a payload that is skipped, and of what was taken no more than of what is
-//! left (`room_is_bounded`). Want of memory changes nothing.
+//! The contract to the layers above: `encode` and `encode_into` write the one wire form of a message, `wire`. A
+//! `Decoder` is fed the bytes of a connection in any pieces and gives its messages one by one: up to a rest that is no
+//! whole message the stream is these messages and no others, however it was cut (`every_message_comes_out`,
+//! `nothing_whole_is_left`, `one_stream`, `cuts_do_not_matter`). A wrong prologue and a payload that is too large are
+//! told only where they stand in a message's place. Nothing is kept of a payload that is skipped, and of what was taken
+//! no more than of what is left (`room_is_bounded`). Want of memory changes nothing.
 //!
 //! `Locks` is seen as a table: who holds the exclusive lock, and by which key each session shares one. Each call is an
 //! equation on it, by the rules of `specs/LockRules.antt` (`locks_keep_their_rules`, `locks_stay_orderly`).
@@ -23,7 +23,7 @@ mod locks;
 mod message;
 
 pub use decoder::Decoder;
-pub use encoding::encode;
+pub use encoding::{encode, encode_into};
 pub use fault::WireFault;
 pub use kind::Kind;
 pub use laws::{

@@ -16,10 +16,13 @@ use Rattle.sw_session.specs.Trace.{Entry, Polled}
 use Rattle.sw_session.specs.EngineStep.{LedBy, goes, says, fails}
 use Rattle.sw_session.specs.Engine.{EngineStanding, fresh_engine, TakesMessage, Falters, session_of, channel_of_state, too_large, skips, notice_from}
 use Rattle.sw_session.specs.Engine.{noticed_from}
-use Rattle.sw_session.specs.ServePoint.{voice}
-use Rattle.sw_session.specs.Serve.{RunsChannel, with_desk, LeavesSession}
+use Rattle.sw_session.specs.ServePoint.{voice, Point}
+use Rattle.sw_session.specs.declared.servers.act.AfterStep.TheVariants.{Goes}
+use Rattle.sw_session.specs.Serve.{RunsChannel, with_desk, LeavesSession, Processes}
 use Rattle.sw_session.specs.ServeEngine.{told_step, second_session_of, LooksFor, Looks, EngineSpeaks, EngineFalters, engine_protocol}
 use Rattle.sw_session.specs.ServeEngine.{Station, manned, ServesChannel}
+use Rattle.sw_session.proofs.ServeKnownLemmas.{appends-nothing}
+use Rattle.sw_session.proofs.ServePartsLemmas.{processes-ok}
 
 pub takes-speaks : {D X : Type 0} (passes : D → Entry → D → Type 0) (d d' : D) (e f : EngineStanding) (m : Message) (r : Result StepSeen X)
     → IfOk r (λ step. LedBy passes d d' (λ asked. TakesMessage e.state m asked step f.state)) → OnOk r ((e.spent ≡ false) × (f.spent ≡ false))
@@ -83,6 +86,15 @@ looks-some passes d d' s t sid view step e p h k =
       admits = subst (λ (o : Option Sid). LooksFor o s (Polled sid view ∷ []) step t) (sym e)
           (refl, h, k);
     }
+
+-- any channel but a session's second one has nothing to tell
+pub tells-none : {D : Type 0} (passes : D → Entry → D → Type 0) (own : Channel) (a : Point EngineStanding D) → second_session_of a.engine.state ≡ None
+    → Processes (voice engine_protocol passes own) Act.Notices a a (Ok Goes)
+tells-none passes own a e =
+    let looks = looks-none passes a.desk a.engine.state (goes []) e refl in
+    processes-ok (voice engine_protocol passes own) a a a Act.Notices (goes []) Goes (record { asked = looks.asked; leads = looks.leads; admits = (looks.admits, refl) })
+    refl refl
+    (record { engine = refl; notes = refl; main = appends-nothing a.main; side = appends-nothing a.side }) refl
 
 pub second-none : (s : State) → channel_of_state s ≡ Synchronous → None ≡ second_session_of s
 second-none (Unopened c) e = refl

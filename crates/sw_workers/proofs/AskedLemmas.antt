@@ -1,5 +1,5 @@
 -- What a desk's ask comes to.
-use Rattle.std.proofs.Common.{◌≡◌, Option, None, refl, sym, ap, subst}
+use Rattle.std.proofs.Common.{◌≡◌, Option, None, refl, sym, ap}
 use Rattle.sw_core.specs.declared.ask.SessionAsk.{SessionAsk}
 use Rattle.sw_core.specs.declared.ask.SessionAnswer.{SessionAnswer}
 use Rattle.sw_core.specs.declared.ask.Answer.{Answer}
@@ -12,27 +12,13 @@ use Rattle.sw_session.proofs.HandedBackLemmas.{handed-back}
 use Rattle.sw_workers.specs.Held.{AtDesk}
 use Rattle.sw_workers.specs.Work.{AsksOnce, Adds, AnswersDesk, Brings, EndsPiece}
 
--- what a session was answered, and the work that came with it
-session-asked : {R M : _} (start : Panel) (ask : SessionAsk) (whole : Answer R M) (answer : SessionAnswer) (work : Option (Work M)) (old new : AtDesk)
-    → whole ≡ Answer.Session answer work → AsksOnce start (AskSession ask) (answer_seen whole) old new
-    → AsksOnce start (AskSession ask) (SaysSession answer (work_seen work)) old new
-session-asked {R} {M} start ask whole answer work old new is asks =
-    subst (λ (a : Answer R M). AsksOnce start (AskSession ask) (answer_seen a) old new) is asks
+pub answers : (start : Panel) (ask : SessionAsk) (answer : SessionAnswer) (work : Option WorkSeen) (old mid new : AtDesk)
+    → AsksOnce start (AskSession ask) (SaysSession answer work) old mid → Adds start work mid new → AnswersDesk start ask answer old new
+answers start ask answer work old mid new asks adds = record { work = work; mid = mid; asks = asks; adds = adds }
 
-pub answers : {R M : _} (start : Panel) (ask : SessionAsk) (whole : Answer R M) (answer : SessionAnswer) (work : Option (Work M)) (old mid new : AtDesk)
-    → whole ≡ Answer.Session answer work → AsksOnce start (AskSession ask) (answer_seen whole) old mid → Adds start (work_seen work) mid new
-    → AnswersDesk start ask answer old new
-answers start ask whole answer work old mid new is asks adds =
-    record { work = work_seen work; mid = mid; asks = session-asked start ask whole answer work old mid is asks; adds = adds }
-
-handed : (start : Panel) (ask : SessionAsk) (answer : SessionAnswer) (work : Option WorkSeen) (old new : AtDesk)
+pub hands-back : (start : Panel) (ask : SessionAsk) (answer : SessionAnswer) (work : Option WorkSeen) (old new : AtDesk)
     → AsksOnce start (AskSession ask) (SaysSession answer work) old new → HandsBackAsk ask answer
-handed start ask answer work old new asks = handed-back asks.before ask _ answer work asks.after asks.history.next.step
-
-pub hands-back : {R M : _} (start : Panel) (ask : SessionAsk) (whole : Answer R M) (answer : SessionAnswer) (work : Option (Work M)) (old new : AtDesk)
-    → whole ≡ Answer.Session answer work → AsksOnce start (AskSession ask) (answer_seen whole) old new → HandsBackAsk ask answer
-hands-back start ask whole answer work old new is asks =
-    handed start ask answer (work_seen work) old new (session-asked start ask whole answer work old new is asks)
+hands-back start ask answer work old new asks = handed-back asks.before ask _ answer work asks.after asks.history.next.step
 
 brings : {R M : _} (start : Panel) (ask : AskSeen) (answer : Answer R M) (old new : AtDesk) (work : Option WorkSeen)
     → AsksOnce start ask (answer_seen answer) old new → work ≡ brought (answer_seen answer) → Brings start ask old work new

@@ -1,6 +1,6 @@
 -- A step's number of events: one more for an event that is numbered.
-use Rattle.std.proofs.Common.{◌≡◌, ℕ, ◌+◌, ◌≤◌, ◌==◌, ◌&&◌, not, Bool, true, false, true≢false, List, [], ◌∷◌, Option, None, Some}
-use Rattle.std.proofs.Common.{refl, ap, sym, subst, ◌∙◌, map, arith, eq-eqb}
+use Rattle.std.proofs.Common.{◌≡◌, ℕ, ◌+◌, ◌≤◌, ◌==◌, ◌&&◌, not, Bool, true, false, List, [], ◌∷◌, Option, None, Some}
+use Rattle.std.proofs.Common.{refl, ap, sym, subst, ◌∙◌, map, arith}
 use Rattle.std.specs.Prelude.{MatchBool}
 use Rattle.std.specs.List.{join_with_byte}
 use Rattle.std.proofs.lemmas.Bool.Decides.{nat_tests}
@@ -333,7 +333,7 @@ pub step_counted : (p : Panel) (ask : AskSeen) (f : Bool) (a : AnswerSeen) (q : 
     → q.events ≡ p.events + one_if (is_counted p.events a)
 step_counted p ask f a q k h = either_counted ((p.events == last_number) && not (acts_unnumbered ask)) p ask f a q k h
 
--- where the number is another after the step, it is the next
-pub one_more : (p q m n : ℕ) (b : Bool) → m ≡ p → n ≡ q → q ≡ p + one_if b → (n == m) ≡ false → q ≡ p + 1
-one_more p q m n true before after counted apart = counted
-one_more p q m n false before after counted apart = absurd (true≢false (sym (eq-eqb n m (omega (arith, before, after, counted))) ∙ apart))
+-- the number is another where the event is counted
+pub counted_apart : (p q m n : ℕ) (b : Bool) → m ≡ p → n ≡ q → q ≡ p + one_if b → one_if (not (n == m)) ≡ one_if b
+counted_apart p q m n true before after counted = grind (arith, nat_tests)
+counted_apart p q m n false before after counted = grind (arith, nat_tests)

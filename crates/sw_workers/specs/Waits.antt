@@ -2,7 +2,6 @@
 use Rattle.std.specs.Prelude.{◌==◌, ℕ, Bool, true, false, Option, None, Some, if◌then◌else◌}
 use Rattle.sw_core.specs.declared.ask.SessionAnswer.{SessionAnswer}
 use Rattle.sw_core.specs.declared.ask.SessionAnswer.TheVariants.{Hold, Joined}
-use Rattle.sw_core.specs.Seen.{AnswerSeen, SaysSession}
 use Rattle.sw_session.specs.declared.available.Seating.{Seating}
 use Rattle.sw_session.specs.declared.available.Seating.TheVariants.{Joins, Stays}
 use Rattle.sw_workers.specs.Limits.{at_most}
@@ -36,7 +35,7 @@ limit_after limit (Hold ask) = limit
 limit_after limit answer = None
 
 -- the number of the session whose first channel a desk is, after an ask that is to change who has joined like this
-abbrev pub number_after : Option ℕ → Seating → AnswerSeen → Option ℕ
+abbrev pub number_after : Option ℕ → Seating → SessionAnswer → Option ℕ
 number_after number Stays answer = number
-number_after number Joins (SaysSession (Joined sid) work) = Some sid.number
+number_after number Joins (Joined sid) = Some sid.number
 number_after number seating answer = None

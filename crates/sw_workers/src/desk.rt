@@ -1,7 +1,7 @@
 //! The desk of one thread.
 
-ghost use Rattle.std.specs.Prelude.{◌≡◌, [], None, IfSome};
-ghost use Rattle.sw_core.specs.Seen.{ask_seen, answer_seen, work_seen};
+ghost use Rattle.std.specs.Prelude.{◌≡◌, [], None, Some, IfSome};
+ghost use Rattle.sw_core.specs.Seen.{ask_seen, answer_seen, work_seen, AskSession, SaysSession};
 ghost use Rattle.sw_session.specs.CoreDesk.{TellsOfPiece, piece_seen};
 ghost use Rattle.sw_session.specs.Trace.{LeavesOf};
 ghost use Rattle.sw_workers.specs.Waits.{MayRest, limit_after, number_after, told_left};
@@ -11,7 +11,7 @@ use crate::gate::{Gate, Point};
 use crate::held::{DeskPart, Mainframe};
 use crate::limits::{Limit, slice_of};
 use crate::outboxes::Place;
-use crate::shared::{Shared, Woken, seating_in};
+use crate::shared::{Shared, Woken};
 use std::alloc::Global;
 use std::sync::{Arc, Wait};
 use std::time::Clock;
@@ -42,16 +42,12 @@ pub struct SharedDesk<
 }
 
 /// The number of the session whose synchronous channel a desk is, after an ask and its answer.
-fn number_after<R: Relay, M: Meter>(
-    number: Option<u8>,
-    seating: Seating,
-    answer: &Answer<R, M>,
-) -> Option<u8>
-    ensures { result ≡ number_after number seating (answer_seen answer.now) }
+fn number_after(number: Option<u8>, seating: Seating, answer: &SessionAnswer) -> Option<u8>
+    ensures { result ≡ number_after number seating answer.now }
 {
     match (seating, answer) {
         (Seating::Stays, _) => number,
-        (Seating::Joins, Answer::Session(SessionAnswer::Joined(sid), _)) => Some(sid.number),
+        (Seating::Joins, SessionAnswer::Joined(sid)) => Some(sid.number),
         _ => None,
     }
 }
@@ -143,12 +139,24 @@ impl<H: Mainframe, R: Relay, M: Meter, G: Gate + Drop, W: Wait + Clock + Copy + 
         self.carry(next);
     }
 
-    /// Sends work, or carries it out, and so on with what that brings.
+    /// Sends work, if there is any, or carries it out, and so on with what that brings.
+    #[inline(always)]
     pub(crate) fn carry(&mut self, work: Option<Work<M>>)
         ensures { SeesToWork H.first H.sent (work_seen work) self.old.part self.new.part }
     {
+        match work {
+            None => {}
+            Some(piece) => self.carry_piece(piece),
+        }
+    }
+
+    /// Sends a piece of work, or carries it out, and so on with what that brings.
+    #[inline(never)]
+    fn carry_piece(&mut self, piece: Work<M>)
+        ensures { SeesToWork H.first H.sent (work_seen (Some piece)) self.old.part self.new.part }
+    {
         let rt = self.rt;
-        let mut left = work;
+        let mut left = Some(piece);
         for _ in rt.forever() {
             let Some(piece) = left else {
                 return;
@@ -179,20 +187,45 @@ impl<H: Mainframe, R: Relay, M: Meter, G: Gate + Drop, W: Wait + Clock + Copy + 
         }
     }
 
-    /// Asks the mainframe. The desk of a session's synchronous channel, which is the one that joined, leaves in the
-    /// session's slot what it has then seen, until the session has left.
-    #[inline(always)]
+    /// Asks the mainframe what no session asks.
     fn act(&mut self, ask: Ask<R, M>) -> Answer<R, M>
         ensures { AsksOnce H.first (ask_seen ask) (answer_seen result) self.old.part self.new.part }
     {
-        let seating = seating_in(&ask);
         let (answer, turn) = self.shared.act(&self.rt, &mut self.part, ask);
         self.seen = turn;
-        self.number = number_after(self.number, seating, &answer);
+        self.leave_seen();
+        answer
+    }
+
+    /// Asks the mainframe what a session asks. The answer is left in `answer`, and what its scan awaits now in `work`.
+    #[inline(always)]
+    fn act_session(
+        &mut self,
+        seating: Seating,
+        ask: SessionAsk,
+        answer: &mut SessionAnswer,
+        work: &mut Option<Work<M>>,
+    )
+        requires { work.old ≡ None }
+        ensures { AsksOnce H.first (AskSession ask) (SaysSession answer.new (work_seen work.new))
+            self.old.part self.new.part }
+    {
+        self.seen = self
+            .shared
+            .act_session(&self.rt, &mut self.part, seating, ask, answer, work);
+        self.number = number_after(self.number, seating, answer);
+        self.leave_seen();
+    }
+
+    /// The desk of a session's synchronous channel, which is the one that joined, leaves in the session's slot what it
+    /// has seen, until the session has left.
+    #[inline(always)]
+    fn leave_seen(&mut self)
+        ensures { self.new.part ≡ self.old.part }
+    {
         if let Some(number) = self.number {
             self.shared.leave(&self.rt, number, &mut self.part);
         }
-        answer
     }
 
     /// Waits for so many milliseconds at most, where there is a limit. A limit that is told as it was left goes on.
@@ -270,17 +303,19 @@ impl<H: Mainframe, R: Relay, M: Meter, G: Gate + Drop, W: Wait + Clock + Copy + 
     ghost passes = { λ before entry after. DeskPasses H.first before.part entry after.part };
 
     fn ask(&mut self, ask: SessionAsk) -> SessionAnswer {
+        let mut answer = SessionAnswer::Stranger;
+        self.ask_into(ask, &mut answer);
+        answer
+    }
+
+    fn ask_into(&mut self, ask: SessionAsk, answer: &mut SessionAnswer) {
         self.shared.gate().pass(&self.rt, Point::Ask);
         let seating = seating_of(&ask);
-        match self.act(Ask::Session(ask)) {
-            Answer::Session(answer, work) => {
-                self.place.follow(&self.rt, seating, &answer);
-                self.carry(work);
-                self.limit = limit_after(self.limit, &answer);
-                answer
-            }
-            _ => unreachable!(),
-        }
+        let mut work = None;
+        self.act_session(seating, ask, answer, &mut work);
+        self.place.follow(&self.rt, seating, answer);
+        self.carry(work);
+        self.limit = limit_after(self.limit, answer);
     }
 
     fn wait(&mut self, limit_ms: Option<u32>) -> Wake {

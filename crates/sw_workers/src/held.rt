@@ -1,29 +1,32 @@
 //! What stands behind the lock: the mainframe and its history, how its events are counted, and the notes of the last
 //! ones.
 
-ghost use Rattle.std.specs.Prelude.{◌≡◌, ◌+◌, ◌↔◌, ℕ, [], IfOk, IfSome, IfNone, Some, true};
+ghost use Rattle.std.specs.Prelude.{◌≡◌, ◌==◌, ◌+◌, ◌<◌, ◌↔◌, ℕ, [], ◌∷◌, ◌++◌, not, IfOk, IfSome, IfNone, None, Some, true};
 ghost use mathlib.Core.List.{IsPrefix};
+ghost use Rattle.circular_buffer.specs.Buffer.{buffer, keep_last};
 ghost use Rattle.sw_core.specs.Opening.{IsFresh, IsReached};
 ghost use Rattle.sw_core.specs.Seen.{ask_seen, answer_seen, failed_in, HandsBack};
+ghost use Rattle.sw_core.specs.Seen.{work_seen, AskSession, SaysSession};
+ghost use Rattle.sw_cage.specs.Change.{any_failed};
 ghost use Rattle.sw_core.specs.Step.{Step};
 ghost use Rattle.sw_workers.specs.Board.{entry_of, reader};
 ghost use Rattle.sw_workers.specs.Entries.{last_pair, made_by};
 ghost use Rattle.sw_workers.specs.Held.{notes_of, noted};
 ghost use Rattle.sw_workers.specs.History.{pair_of, event, said_at, grown, IsHistory, AsksInHistory, AwaitsEnd};
-ghost use Rattle.sw_workers.specs.Kinds.{ask_kind};
-ghost use Rattle.sw_workers.specs.Shares.{all_parts, is_counted, is_event, one_if};
+ghost use Rattle.sw_workers.specs.Kinds.{ask_kind, session_kind};
+ghost use Rattle.sw_workers.specs.Shares.{all_parts, is_counted, is_event, is_session_event, one_if};
 ghost use Rattle.sw_workers.specs.Waking.{HoldsOn, TellsScan, turn_after};
 ghost use Rattle.sw_workers.specs.Work.{AsksOnce};
 
 use crate::board::StatusBoard;
 use crate::laws::whoever_may_go_on_is_woken;
-use crate::note::{Note, kind};
+use crate::note::{Note, kind, session_kind};
 use crate::outboxes::Outbox;
 use crate::recorded::{Recorded, Recording};
 use crate::seat::StatusSeat;
 use crate::slots::SeatSlots;
-use crate::telling::is_event;
-use crate::waking::{Concern, concern_of, turn_after, wakes};
+use crate::telling::{is_event, is_session_event};
+use crate::waking::{Concern, concern_of, session_concern, session_wakes, turn_after, wakes};
 use crate::work_channels::Carrier;
 use circular_buffer::HeapCircularBuffer;
 use std::alloc::{AllocError, Global};
@@ -31,7 +34,7 @@ use std::marker::{Brand, Model};
 use std::sync::Wait;
 use std::sync::ledger::{Book, Ledger, Share};
 use sw_card::{Meter, Relay};
-use sw_core::{Answer, Ask, Sid};
+use sw_core::{Answer, Ask, SessionAnswer, SessionAsk, Sid, Work};
 
 /// Which mainframe it is, to those who wait for it: that its end has begun is known only once nobody has to wait.
 pub trait Lasting {
@@ -152,6 +155,28 @@ impl<H: Mainframe> DeskPart<H> {
     {
         let DeskPart { share, seat: _ } = self;
         share
+    }
+}
+
+/// Notes an event, and counts it in a desk's share where the number before it was another.
+#[inline(always)]
+fn count<H: Mainframe>(
+    notes: &mut HeapCircularBuffer<Note>,
+    events: &mut Book<H>,
+    share: &mut Share<H>,
+    note: Note,
+    before: u64,
+)
+    requires { 0 < share.old.parts }
+    ensures notes { notes.new
+        ≡ buffer (keep_last notes.old.capacity (notes.old.items ++ note ∷ [])) notes.old.capacity }
+    ensures events { events.new.total ≡ events.old.total + one_if (not (note.number == before)) }
+    ensures share { (share.new.parts ≡ share.old.parts)
+        × (share.new.amount ≡ share.old.amount + one_if (not (note.number == before))) }
+{
+    let _ = notes.push_back(note);
+    if note.number != before {
+        events.add(share, 1);
     }
 }
 
@@ -298,6 +323,29 @@ impl<H: Mainframe, R: Relay, M: Meter> Held<H, R, M> {
         answer
     }
 
+    /// Asks the mainframe what a session asks, as `act` does. The answer is left in `answer`, and what its scan awaits
+    /// now in `work`.
+    #[inline(always)]
+    pub fn act_session(
+        &mut self,
+        part: &mut DeskPart<H>,
+        ask: SessionAsk,
+        answer: &mut SessionAnswer,
+        work: &mut Option<Work<M>>,
+    )
+        requires empty { work.old ≡ None }
+        ensures once { AsksOnce H.first (AskSession ask) (SaysSession answer.new (work_seen work.new))
+            part.old part.new }
+        ensures waits { self.new.turn ≡ self.old.turn → HoldsOn self.old.panel self.new.panel }
+    {
+        whoever_may_go_on_is_woken();
+        let concern = session_concern(&ask);
+        let ran = self.tells_scan(concern);
+        self.ask_session(part, ask, answer, work);
+        let runs = self.tells_scan(concern);
+        self.take_turn(session_wakes(concern, ran, runs, answer));
+    }
+
     /// Nobody has to wait any more.
     pub fn close(&mut self)
         ensures { self.new ≡ self.old }
@@ -347,11 +395,57 @@ impl<H: Mainframe, R: Relay, M: Meter> Held<H, R, M> {
             return answer;
         }
         let number = self.core.events();
-        let _ = self.notes.push_back(Note { number, ask: kind });
-        if number == before {
-            return answer;
-        }
-        self.events.add(&mut part.share, 1);
+        let note = Note { number, ask: kind };
+        count(
+            &mut self.notes,
+            &mut self.events,
+            &mut part.share,
+            note,
+            before,
+        );
         answer
+    }
+
+    /// Asks the mainframe what a session asks, as `ask` does. The answer is left in `answer`, and what its scan awaits
+    /// now in `work`.
+    #[tactic(auto, using(crate::proofs::CountedLemmas::step_counted))]
+    #[inline(always)]
+    pub fn ask_session(
+        &mut self,
+        part: &mut DeskPart<H>,
+        ask: SessionAsk,
+        answer: &mut SessionAnswer,
+        work: &mut Option<Work<M>>,
+    )
+        requires empty { work.old ≡ None }
+        ensures step { Step self.old.panel (AskSession ask)
+            (any_failed self.old.panel.cage.cards self.new.panel.cage.cards)
+            (SaysSession answer.new (work_seen work.new)) self.new.panel }
+        ensures asked { AsksInHistory H.first self.old.panel part.old.seat
+            (event (AskSession ask) (SaysSession answer.new (work_seen work.new)) self.new.panel) part.new.seat }
+        ensures seen { IsPrefix part.old.seat.seen self.old.history × (part.new.seat.seen ≡ self.new.history) }
+        ensures history { self.new.history ≡ grown (is_session_event answer.new) self.old.history (entry_of
+            part.old.seat (said_at self.new.panel (AskSession ask) (SaysSession answer.new (work_seen work.new)))) }
+        ensures share { part.new.amount ≡ part.old.amount
+            + one_if (is_counted self.old.panel.events (SaysSession answer.new (work_seen work.new))) }
+        ensures given { (self.new.given ≡ self.old.given) × (self.new.turn ≡ self.old.turn) }
+        ensures notes { notes_of self.new.history ≡ noted (is_session_event answer.new) (notes_of self.old.history)
+            (record { number = self.new.panel.events; ask = session_kind ask }) }
+    {
+        let before = self.core.events();
+        let kind = session_kind(&ask);
+        self.core
+            .ask_session(self.alloc, &mut part.seat, ask, answer, work);
+        if !is_session_event(answer) {
+            return;
+        }
+        let number = self.core.events();
+        count(
+            &mut self.notes,
+            &mut self.events,
+            &mut part.share,
+            Note { number, ask: kind },
+            before,
+        );
     }
 }

@@ -1,12 +1,13 @@
 //! The mainframe behind one lock, and the threads that share it.
 //!
-//! What stands behind the lock is `Held`: the mainframe, the history of its events, how they are counted, and the
-//! notes of the last 64. The crate's contract is that of `Held::ask`: the core's answer and panel exactly, by `Step`;
-//! one more entry of the desk in the history where that was an event (`AsksInHistory`), else none; one more in its
-//! share where the event has a number; and its note. The history leads from the opening panel to the present one,
-//! event by event; and the mainframe opened fresh, so the history is a run of the core, of which every law over runs
-//! holds (`every_history_is_a_run`). Whenever it is seen, the number of events is the opening one and the sum of all
-//! shares (`Held::number`).
+//! What stands behind the lock is `Held`: the mainframe, the history of its events, how they are counted, and the notes
+//! of the last 64. The crate's contract is that of `Held::ask`: the core's answer and panel exactly, by `Step`; one
+//! more entry of the desk in the history where that was an event (`AsksInHistory`), else none; one more in its share
+//! where the event has a number; and its note. `Held::ask_session` does so for a session's ask, and leaves the answer
+//! where the caller looks. The history leads from the opening panel to the present one, event by event; and the
+//! mainframe opened fresh, so the history is a run of the core, of which every law over runs holds
+//! (`every_history_is_a_run`). Whenever it is seen, the number of events is the opening one and the sum of all shares
+//! (`Held::number`).
 //!
 //! The status board is one word that tells the pair at the end of that history: status byte and number of service
 //! requests. A `StatusSeat` reads it without a lock (`StatusSeat::read`), and has seen a beginning of the history.

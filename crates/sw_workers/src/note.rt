@@ -64,7 +64,7 @@ pub struct Note {
 }
 
 /// What a session's ask is called.
-fn session_kind(ask: &SessionAsk) -> AskKind
+pub fn session_kind(ask: &SessionAsk) -> AskKind
     ensures { result ≡ session_kind ask.now }
 {
     match ask {

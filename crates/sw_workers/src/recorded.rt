@@ -1,27 +1,29 @@
 //! A mainframe whose events stand, one after another, in the history that the status board tells the end of.
 
-ghost use Rattle.std.specs.Prelude.{◌≡◌, ◌<◌, ◌^◌, ◌↔◌, ℕ, [], ◌∷◌, ◌++◌, Some, true};
+ghost use Rattle.std.specs.Prelude.{◌≡◌, ◌<◌, ◌^◌, ◌↔◌, ℕ, [], ◌∷◌, ◌++◌, None, Some, true};
 ghost use mathlib.Core.List.{IsPrefix};
 ghost use Rattle.sw_status.specs.StatusModel.{summary_of};
 ghost use Rattle.sw_core.specs.Opening.{IsFresh, IsReached};
 ghost use Rattle.sw_core.specs.Panel.{Panel};
 ghost use Rattle.sw_core.specs.Step.{Step};
 ghost use Rattle.sw_core.specs.Seen.{ask_seen, answer_seen, failed_in, HandsBack, IsOwnAccount};
+ghost use Rattle.sw_core.specs.Seen.{work_seen, AskSession, SaysSession};
+ghost use Rattle.sw_cage.specs.Change.{any_failed};
 ghost use Rattle.sw_workers.specs.Board.{entry_of};
 ghost use Rattle.sw_workers.specs.Entries.{made_by};
 ghost use Rattle.sw_workers.specs.History.{pair_of, event, said_at, grown, IsHistory, AsksInHistory, AwaitsEnd};
 ghost use Rattle.sw_workers.specs.Said.{said_in};
-ghost use Rattle.sw_workers.specs.Shares.{is_event};
+ghost use Rattle.sw_workers.specs.Shares.{is_event, is_session_event};
 
 use crate::board::{BoardName, StatusBoard};
 use crate::seat::{LockedPass, StatusSeat};
-use crate::telling::{Happened, is_event, tell_event};
+use crate::telling::{Answered, Happened, is_event, is_session_event, tell_answered, tell_event};
 use std::alloc::Global;
 use std::marker::{Brand, Model};
 use std::snapshot::Snapshot;
 use std::sync::Arc;
 use sw_card::{Meter, Relay};
-use sw_core::{Answer, Ask, Core, SessionAsk, Sid, runs_go_on};
+use sw_core::{Answer, Ask, Core, SessionAnswer, SessionAsk, Sid, Work, runs_go_on};
 use sw_lex::{Command, Plain};
 
 /// Which mainframe it is: its board, and the panel that it opened with.
@@ -112,6 +114,46 @@ impl<B: Recording, R: Relay, M: Meter> Recorded<B, R, M> {
         };
         tell_event(pass, board, desk, &event);
         answer
+    }
+
+    /// Asks the mainframe what a session asks, as `ask` does. The answer is left in `answer`, and what its scan awaits
+    /// now in `work`.
+    #[inline(always)]
+    pub fn ask_session(
+        &mut self,
+        alloc: Global,
+        desk: &mut StatusSeat<B>,
+        ask: SessionAsk,
+        answer: &mut SessionAnswer,
+        work: &mut Option<Work<M>>,
+    )
+        requires desk { (d : ℕ) × (desk.old.desk ≡ Some d) }
+        requires empty { work.old ≡ None }
+        ensures step { Step self.old.panel (AskSession ask)
+            (any_failed self.old.panel.cage.cards self.new.panel.cage.cards)
+            (SaysSession answer.new (work_seen work.new)) self.new.panel }
+        ensures history { AsksInHistory B.first self.old.panel desk.old
+            (event (AskSession ask) (SaysSession answer.new (work_seen work.new)) self.new.panel) desk.new }
+        ensures seen { IsPrefix desk.old.seen self.old.history × (desk.new.seen ≡ self.new.history) }
+        ensures grown { self.new.history ≡ grown (is_session_event answer.new) self.old.history (entry_of desk.old
+            (said_at self.new.panel (AskSession ask) (SaysSession answer.new (work_seen work.new)))) }
+    {
+        runs_go_on();
+        let Recorded { core, pass, board } = self;
+        let asked = Snapshot::of(&ask);
+        core.ask(alloc, ask, answer, work);
+        if !is_session_event(answer) {
+            return pass.tell(board, desk);
+        }
+        let number = core.events();
+        let event = Answered {
+            number,
+            ask: asked,
+            answer: Snapshot::of(answer),
+            work: Snapshot::of(work),
+            pair: core.pair(),
+        };
+        tell_answered(pass, board, desk, &event);
     }
 
     /// Whether `*OPC?` of the session would be held now: a scan runs, or others have a lock.

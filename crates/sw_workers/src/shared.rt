@@ -1,11 +1,11 @@
 //! The mainframe behind one lock, and what wakes those who wait for it.
 
-ghost use Rattle.std.specs.Prelude.{◌≡◌, ◌+◌, ◌≤◌, [], IfOk, IfSome, IfNone};
+ghost use Rattle.std.specs.Prelude.{◌≡◌, ◌+◌, ◌≤◌, [], IfOk, IfSome, IfNone, None};
 ghost use Rattle.std.specs.Vec.{vec_capacity};
 ghost use Rattle.sw_base.specs.Limits.{most_slots};
 ghost use Rattle.sw_cage.specs.Accounts.{accounts_of};
 ghost use Rattle.sw_core.specs.Opening.{IsFresh};
-ghost use Rattle.sw_core.specs.Seen.{ask_seen, answer_seen};
+ghost use Rattle.sw_core.specs.Seen.{ask_seen, answer_seen, work_seen, AskSession, SaysSession};
 ghost use Rattle.sw_session.specs.CoreDesk.{piece_seen};
 ghost use Rattle.sw_workers.specs.Closing.{IsClosedDown};
 ghost use Rattle.sw_workers.specs.History.{pair_of};
@@ -31,8 +31,8 @@ use std::sync::ledger::{Blank, Share};
 use std::sync::{Arc, Condvar, Mutex, Wait};
 use std::time::{Clock, Duration};
 use sw_card::{Card, Meter, Relay};
-use sw_core::{Answer, Ask, Core, Sid, Work, runs_go_on};
-use sw_session::{Seating, View, seating_of};
+use sw_core::{Answer, Ask, Core, SessionAnswer, SessionAsk, Sid, Work, runs_go_on};
+use sw_session::{Seating, View};
 
 /// The parts of a ledger.
 const PARTS: u64 = (1 << 33) + 1;
@@ -83,14 +83,6 @@ fn outcome_of(seen: u64, turn: u64, is_closing: bool) -> Woken
         Woken::Unchanged
     } else {
         Woken::Turned
-    }
-}
-
-/// What an ask is to change about who has joined.
-pub fn seating_in<R: Relay, M: Meter>(ask: &Ask<R, M>) -> Seating {
-    match ask {
-        Ask::Session(ask) => seating_of(ask),
-        _ => Seating::Stays,
     }
 }
 
@@ -162,8 +154,8 @@ impl<H: Mainframe, R: Relay, M: Meter, G: Gate + Drop> Shared<H, R, M, G> {
         self.held.lock(rt).new_part()
     }
 
-    /// Asks under the lock, and wakes those who wait where they may go on. It gives the turn after that too.
-    #[inline(always)]
+    /// Asks under the lock what no session asks, and wakes those who wait where they may go on. It gives the turn after
+    /// that too.
     pub fn act<W: Wait>(
         &self,
         rt: &W,
@@ -172,11 +164,9 @@ impl<H: Mainframe, R: Relay, M: Meter, G: Gate + Drop> Shared<H, R, M, G> {
     ) -> (Answer<R, M>, u64)
         ensures { AsksOnce H.first (ask_seen ask) (answer_seen result.0) part.old part.new }
     {
-        let seating = seating_in(&ask);
         let mut guard = lock_soon(&self.held, rt);
         let before = guard.turn();
         let answer = guard.act(part, ask);
-        self.follow(rt, seating, &answer);
         let turn = guard.turn();
         drop(guard);
         if turn != before {
@@ -185,14 +175,40 @@ impl<H: Mainframe, R: Relay, M: Meter, G: Gate + Drop> Shared<H, R, M, G> {
         (answer, turn)
     }
 
+    /// Asks under the lock what a session asks, which is to change who has joined like this, as `act` does, and gives the
+    /// turn after that. Who joins and who leaves is followed. The answer is left in `answer`, and what its scan awaits now in `work`.
+    #[inline(always)]
+    pub fn act_session<W: Wait>(
+        &self,
+        rt: &W,
+        part: &mut DeskPart<H>,
+        seating: Seating,
+        ask: SessionAsk,
+        answer: &mut SessionAnswer,
+        work: &mut Option<Work<M>>,
+    ) -> u64
+        requires { work.old ≡ None }
+        ensures { AsksOnce H.first (AskSession ask) (SaysSession answer.new (work_seen work.new)) part.old part.new }
+    {
+        let mut guard = lock_soon(&self.held, rt);
+        let before = guard.turn();
+        guard.act_session(part, ask, answer, work);
+        self.follow(rt, seating, answer);
+        let turn = guard.turn();
+        drop(guard);
+        if turn != before {
+            self.happened.notify_all();
+        }
+        turn
+    }
+
     /// Follows who joins and who leaves, while the mainframe is locked.
-    fn follow<W: Wait>(&self, rt: &W, seating: Seating, answer: &Answer<R, M>) {
+    #[inline(always)]
+    fn follow<W: Wait>(&self, rt: &W, seating: Seating, answer: &SessionAnswer) {
         if let Seating::Stays = seating {
             return;
         }
-        if let Answer::Session(answer, _) = answer {
-            self.available.follow(rt, seating, answer);
-        }
+        self.available.follow(rt, seating, answer);
     }
 
     /// Sends a piece of work to its worker, or hands it back.

@@ -1,11 +1,11 @@
 //! After what those who wait may go on: a row for each ask and each family of commands.
 
-ghost use Rattle.std.specs.Prelude.{◌≡◌};
-ghost use Rattle.sw_core.specs.Seen.{ask_seen, answer_seen};
+ghost use Rattle.std.specs.Prelude.{◌≡◌, Option};
+ghost use Rattle.sw_core.specs.Seen.{ask_seen, answer_seen, WorkSeen, SaysSession};
 ghost use Rattle.sw_workers.specs.Waking.{may_end, session_concern, concern_of};
 ghost use Rattle.sw_workers.specs.Waking.{changes_seats, may_be_over, wakes, turn_after};
 
-use crate::telling::is_event;
+use crate::telling::{is_event, is_session_event};
 use sw_card::{Meter, Relay};
 use sw_core::{Answer, Ask, SessionAnswer, SessionAsk, Sid};
 use sw_lex::{Command, Plain};
@@ -41,7 +41,7 @@ fn may_end(command: &Command) -> bool
 }
 
 /// What a session's ask may end of what holds those who wait.
-fn session_concern(ask: &SessionAsk) -> Concern
+pub fn session_concern(ask: &SessionAsk) -> Concern
     ensures { result ≡ session_concern ask.now }
 {
     match ask {
@@ -70,12 +70,12 @@ pub fn concern_of<R: Relay, M: Meter>(ask: &Ask<R, M>) -> Concern
     }
 }
 
-/// Whether locks or clears may be others after an event that is answered so.
-fn changes_seats<R: Relay, M: Meter>(answer: &Answer<R, M>) -> bool
-    ensures { result ≡ changes_seats (answer_seen answer.now) }
+/// Whether locks or clears may be others after an event that a session asked for and that is answered so.
+fn changes_seats(answer: &SessionAnswer) -> bool
+    ensures { (work : Option WorkSeen) → result ≡ changes_seats (SaysSession answer.now work) }
 {
     match answer {
-        Answer::Session(SessionAnswer::Lock(code), _) => *code != 3,
+        SessionAnswer::Lock(code) => *code != 3,
         _ => true,
     }
 }
@@ -93,8 +93,21 @@ fn may_be_over<R: Relay, M: Meter>(answer: &Answer<R, M>) -> bool
     }
 }
 
-/// Whether those who wait may go on after an answer. Of what a session asks of the scan that is where a scan ran before
-/// it, and none does after it.
+/// Whether those who wait may go on after a session's answer. Of what is asked of the scan that is where a scan ran
+/// before it, and none does after it.
+pub fn session_wakes(concern: Concern, ran: bool, runs: bool, answer: &SessionAnswer) -> bool
+    ensures { (work : Option WorkSeen) → result ≡ wakes concern ran runs (SaysSession answer.now work) }
+{
+    is_session_event(answer)
+        && match concern {
+            Concern::Nobody => false,
+            Concern::Seats => changes_seats(answer),
+            Concern::ScanBy(_) => ran && !runs,
+            Concern::Scan => true,
+        }
+}
+
+/// Whether those who wait may go on after an answer.
 pub fn wakes<R: Relay, M: Meter>(
     concern: Concern,
     ran: bool,
@@ -103,13 +116,15 @@ pub fn wakes<R: Relay, M: Meter>(
 ) -> bool
     ensures { result ≡ wakes concern ran runs (answer_seen answer.now) }
 {
-    is_event(answer)
-        && match concern {
-            Concern::Nobody => false,
-            Concern::Seats => changes_seats(answer),
-            Concern::ScanBy(_) => ran && !runs,
-            Concern::Scan => may_be_over(answer),
-        }
+    if let Answer::Session(answer, _) = answer {
+        return session_wakes(concern, ran, runs, answer);
+    }
+    match concern {
+        Concern::Nobody => false,
+        Concern::Seats => is_event(answer),
+        Concern::ScanBy(_) => is_event(answer) && ran && !runs,
+        Concern::Scan => is_event(answer) && may_be_over(answer),
+    }
 }
 
 /// The turn after an ask: another one where those who wait may go on, and where no event can be numbered any more.

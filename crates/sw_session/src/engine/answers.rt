@@ -63,6 +63,7 @@ impl Parts {
     }
 
     /// The next part. Only want of memory is refused. An answer that is one part is given as it is, and not copied.
+    #[inline(always)]
     pub fn next(&mut self, alloc: Global) -> Result<Option<Message>, AllocError>
         ensures { GivesFirst self.old result self.new }
     {

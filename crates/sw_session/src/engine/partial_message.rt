@@ -21,6 +21,7 @@ pub enum PartialMessage {
 
 /// The front with one more part, of which no more is taken than there is room for. Want of memory loses the whole
 /// message.
+#[inline(always)]
 pub fn with_part(partial: PartialMessage, part: Sequence<u8>) -> Result<PartialMessage, AllocError>
     ensures { IfOk result (λ after. after ≡ with_part partial part) }
 {
@@ -53,6 +54,7 @@ fn extended(partial: Vec<u8>, part: &[u8]) -> Result<Vec<u8>, AllocError>
 }
 
 /// The message with its last part, as far as it is kept; none where a part of it was skipped.
+#[inline(always)]
 pub fn whole(
     partial: PartialMessage,
     part: Sequence<u8>,

@@ -279,7 +279,8 @@ impl SyncSession {
         ensures kept { self.new ≡ record self.old { macros = self.new.macros } }
     {
         let bytes = self.talker.message(text, desk);
-        let size = desk.ask(SessionAsk::MaxSize(self.sid));
+        let mut size = SessionAnswer::Stranger;
+        desk.ask_into(SessionAsk::MaxSize(self.sid), &mut size);
         respond(id, bytes, size, said)
     }
 }

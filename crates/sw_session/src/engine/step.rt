@@ -90,6 +90,7 @@ impl Step {
     }
 
     /// The next message. Only want of memory for a part of an answer is refused.
+    #[inline(always)]
     pub fn next(&mut self, alloc: Global) -> Result<Option<Sent>, AllocError>
         ensures gives { GivesFirst self.old.out result self.new.out }
         ensures same { self.new.ends ≡ self.old.ends }

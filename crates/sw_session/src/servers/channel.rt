@@ -10,6 +10,7 @@ use crate::desk::Desk;
 use crate::engine::{Channel, Engine};
 use crate::servers::channel_server::ChannelServer;
 use crate::servers::fault::ServeFault;
+use crate::servers::rooms::Rooms;
 use crate::servers::source::Source;
 use crate::servers::writing::Sink;
 use std::alloc::Global;
@@ -35,11 +36,13 @@ pub fn serve_channel<R: Source, W: Sink, S: Sink, D: Desk>(
 {
     let mut engine = Engine::new(alloc, channel);
     let mut decoder = Decoder::new(alloc);
+    let mut rooms = Rooms::new(alloc);
     let mut server = ChannelServer {
         alloc,
         own: channel,
         engine: &mut engine,
         decoder: &mut decoder,
+        rooms: &mut rooms,
         writer,
         side,
         desk,

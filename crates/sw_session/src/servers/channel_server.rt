@@ -2,6 +2,7 @@
 
 use crate::desk::Desk;
 use crate::engine::{Channel, Engine};
+use crate::servers::rooms::Rooms;
 use crate::servers::writing::Sink;
 use std::alloc::Global;
 use sw_hislip::Decoder;
@@ -14,6 +15,7 @@ pub struct ChannelServer<'c, 'w, 's, 'd, W: Sink, S: Sink, D: Desk> {
     pub own: Channel,
     pub engine: &'c mut Engine,
     pub decoder: &'c mut Decoder,
+    pub rooms: &'c mut Rooms,
     pub writer: &'w mut W,
     pub side: &'s mut S,
     pub desk: &'d mut D,

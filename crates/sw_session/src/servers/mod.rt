@@ -5,6 +5,7 @@ mod channel;
 mod channel_server;
 mod fault;
 mod processing;
+mod rooms;
 mod sending;
 mod source;
 mod speaking;

@@ -8,7 +8,7 @@ use crate::desk::Desk;
 use crate::servers::act::{Act, AfterStep, after_step, goes_on, is_refused};
 use crate::servers::channel_server::ChannelServer;
 use crate::servers::fault::ServeFault;
-use crate::servers::speaking::handle;
+use crate::servers::speaking::{handle, second_session};
 use crate::servers::writing::Sink;
 
 impl<W: Sink, S: Sink, D: Desk> ChannelServer<'_, '_, '_, '_, W, S, D> {
@@ -32,6 +32,21 @@ impl<W: Sink, S: Sink, D: Desk> ChannelServer<'_, '_, '_, '_, W, S, D> {
         }
     }
 
+    /// Tells of service requests, for which a second channel alone asks.
+    fn notice(&mut self) -> Result<AfterStep, ServeFault>
+        ensures processed { Processes (voice_of D.passes self.old) Act.Notices (stands W.Sink S.Sink self.old)
+            (stands W.Sink S.Sink self.new) result }
+        ensures judged { IfOk result (λ after. Judges (is_refused Act.Notices) after) }
+        ensures write { result ≡ Err ServeFault.Write → WriteFails W.Sink S.Sink self.new }
+        ensures decoder { self.new.decoder ≡ self.old.decoder }
+        ensures stays { StaysServer self.old self.new }
+    {
+        match second_session(self.engine) {
+            Some(_) => self.process(Act::Notices),
+            None => Ok(AfterStep::Goes),
+        }
+    }
+
     /// Goes through what the wire has told: before a message is taken, service requests are told.
     pub fn attend(&mut self, input: Act) -> Result<AfterStep, ServeFault>
         ensures processed { ProcessesEach (voice_of D.passes self.old) (acts_for input) (stands W.Sink S.Sink self.old)
@@ -45,7 +60,7 @@ impl<W: Sink, S: Sink, D: Desk> ChannelServer<'_, '_, '_, '_, W, S, D> {
             Act::Takes(message) => message,
             act => return self.process(act),
         };
-        let processed = self.process(Act::Notices);
+        let processed = self.notice();
         if goes_on(processed) {
             return self.process(Act::Takes(message));
         }

@@ -13,7 +13,7 @@ use crate::engine::{Channel, Engine, Sent, Step};
 use crate::servers::channel_server::ChannelServer;
 use crate::servers::fault::ServeFault;
 use crate::servers::writing::{Sink, Unwritten};
-use sw_hislip::{Kind, encode};
+use sw_hislip::{Kind, encode_into};
 
 /// Whether a message of that channel goes to the writer of this one.
 fn is_own(own: Channel, other: Channel) -> bool
@@ -78,11 +78,12 @@ impl<W: Sink, S: Sink, D: Desk> ChannelServer<'_, '_, '_, '_, W, S, D> {
                 Ok(None) => return Ok(()),
                 Err(_) => return Err(ServeFault::NoMemory),
             };
-            let Ok(bytes) = encode(self.alloc, &sent.message) else {
+            let mut bytes = self.rooms.take();
+            let Ok(()) = encode_into(&sent.message, &mut bytes) else {
                 return Err(ServeFault::NoMemory);
             };
             match self.hand_over(&sent, bytes.as_slice()) {
-                Ok(()) => {}
+                Ok(()) => self.rooms.keep(bytes),
                 Err(_) => return Err(ServeFault::Write),
             }
         }

@@ -54,7 +54,7 @@ fn refuse(alloc: Global, engine: &Engine) -> Result<Step, AllocError>
 }
 
 /// The session whose second channel this is.
-fn second_session(engine: &Engine) -> Option<Sid>
+pub fn second_session(engine: &Engine) -> Option<Sid>
     ensures { result ≡ second_session_of engine.now.state }
 {
     match engine.channel() {

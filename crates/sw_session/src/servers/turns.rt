@@ -11,6 +11,7 @@ use crate::desk::Desk;
 use crate::servers::act::{Act, AfterStep, goes_on};
 use crate::servers::channel_server::ChannelServer;
 use crate::servers::fault::ServeFault;
+use crate::servers::rooms::Rooms;
 use crate::servers::source::{Source, Unread};
 use crate::servers::writing::Sink;
 use std::alloc::Global;
@@ -33,19 +34,22 @@ pub enum Next {
 }
 
 /// One read. Its bytes are fed.
-fn listen<R: Source>(reader: &mut R, decoder: &mut Decoder) -> Result<Received, ServeFault>
+fn listen<R: Source>(
+    reader: &mut R,
+    rooms: &mut Rooms,
+    decoder: &mut Decoder,
+) -> Result<Received, ServeFault>
     ensures listens { Listens
         (R.remaining reader.old) (R.remaining reader.new) decoder.old.pending decoder.new.pending result }
     ensures pauses { CountsReceived (R.pauses reader.old) (R.pauses reader.new) result }
     ensures read { result ≡ Err ServeFault.Read → IsLedTo R.failed reader.new }
 {
-    let mut buffer = [0_u8; 512];
-    match reader.receive(&mut buffer) {
+    match reader.receive(&mut rooms.heard) {
         Ok(n) => {
             if n == 0 {
                 return Ok(Received::End);
             }
-            match decoder.feed(&buffer[..n]) {
+            match decoder.feed(&rooms.heard[..n]) {
                 Ok(()) => Ok(Received::Bytes),
                 Err(_) => Err(ServeFault::NoMemory),
             }
@@ -112,7 +116,7 @@ impl<W: Sink, S: Sink, D: Desk> ChannelServer<'_, '_, '_, '_, W, S, D> {
         ensures write { result ≡ Err ServeFault.Write → WriteFails W.Sink S.Sink self.new }
         ensures stays { StaysServer self.old self.new }
     {
-        match listen(reader, self.decoder) {
+        match listen(reader, self.rooms, self.decoder) {
             Err(fault) => Err(fault),
             Ok(Received::End) => Ok(Next::Over),
             Ok(Received::Paused) => conclude(self.attend(Act::Notices)),

@@ -1,4 +1,4 @@
-use Rattle.std.proofs.Common.{rules, ◌≡◌, ◌+◌, ◌==◌, Bool, true, false, List, ap, ◌∙◌, arith}
+use Rattle.std.proofs.Common.{rules, ◌≡◌, ℕ, ◌+◌, Bool, true, false, List, ap, ◌∙◌, arith}
 use Rattle.sw_core.specs.Seen.{ask_seen, answer_seen}
 use Rattle.sw_workers.specs.declared.note.Note.{Note}
 use Rattle.sw_workers.specs.Board.{entry_of}
@@ -7,21 +7,12 @@ use Rattle.sw_workers.specs.Held.{Locked, note_of, notes_of, noted}
 use Rattle.sw_workers.specs.History.{said_at, grown}
 use Rattle.sw_workers.specs.Shares.{is_event, is_counted, one_if}
 use Rattle.sw_workers.proofs.AtDesksLemmas.{some_desk}
-use Rattle.sw_workers.proofs.CountedLemmas.{step_counted, one_more}
+use Rattle.sw_workers.proofs.CountedLemmas.{step_counted, counted_apart}
 use Rattle.sw_workers.proofs.NotesLemmas.{ring_more, notes_grown}
 use Rattle.sw_workers.proofs.held.Held.ask.Goals as goal
 
 pub ask-answer-requires : goal.ask-answer-requires
 ask-answer-requires g c = record { desk = some_desk c.part.inside.seat.desk c.part.invariant.1 }
-
-pub returns-then-number-before-clause-notes : goal.returns-then-number-before-clause-notes
-returns-then-number-before-clause-notes g c =
-    let answer = c.ask-answer.result in
-    let e : HistoryEntry = entry_of c.part.inside.seat (said_at c.ask-answer.new.self.panel (ask_seen c.args.ask) (answer_seen answer)) in
-    let here : c.self.inside.core.history ≡ c.args.self.now.history = ap (λ (l : Locked). l.history) c.self.view_is in
-    ap notes_of c.ask-answer.ensures.grown
-    ∙ (notes_grown (is_event (answer_seen answer)) c.self.inside.core.history e
-    ∙ ap (λ (es : List HistoryEntry). noted (is_event (answer_seen answer)) (notes_of es) (note_of e)) here)
 
 pub returns-clause-notes : goal.returns-clause-notes
 returns-clause-notes g c =
@@ -32,18 +23,14 @@ returns-clause-notes g c =
     ∙ (notes_grown (is_event (answer_seen answer)) c.self.inside.core.history e
     ∙ ap (λ (es : List HistoryEntry). noted (is_event (answer_seen answer)) (notes_of es) (note_of e)) here)
 
-pub invariant_of-self-then-number-before : goal.invariant_of-self-then-number-before
-invariant_of-self-then-number-before g c =
-    let i = c.self.invariant in
-    let answer = c.ask-answer.result in
-    let event : is_event (answer_seen answer) ≡ true = search rules in
-    let es = c.self.inside.core.history in
-    let e : HistoryEntry = entry_of c.part.inside.seat (said_at c.ask-answer.new.self.panel (ask_seen c.args.ask) (answer_seen answer)) in
-    let more = c.ask-answer.ensures.grown ∙ ap (λ (b : Bool). grown b es e) event in
-    let note : Note = record { number = c.events-number.result; ask = c.kind-kind.result } in
-    let same : note ≡ note_of e = λ j. record { number = c.events-number.ensures j; ask = c.kind-kind.ensures j } in
-    let ring = ring_more c.self.inside.notes c.push_back.new.self note es c.ask-answer.new.self.history e i.3 i.4 c.push_back.ensures.items same more in
-    (search rules, i.1, i.2, ring.0, ring.1, i.5, i.6)
+pub returns-clause-share : goal.returns-clause-share
+returns-clause-share g c =
+    let p = c.self.inside.core.panel.events in
+    let q = c.ask-answer.new.self.panel.events in
+    let b = is_counted p (answer_seen c.ask-answer.result) in
+    let counted : q ≡ p + one_if b = search (rules, step_counted) in
+    let up = counted_apart p q _ _ b c.events-before.ensures c.events-number.ensures counted in
+    rw (← c.part.view_is, ← c.self.view_is) (c.count.ensures.share.1 ∙ ap (λ (n : ℕ). c.part.inside.share.amount + n) up)
 
 pub invariant_of-self-2 : goal.invariant_of-self-2
 invariant_of-self-2 g c =
@@ -55,10 +42,10 @@ invariant_of-self-2 g c =
     let more = c.ask-answer.ensures.grown ∙ ap (λ (b : Bool). grown b es e) event in
     let note : Note = record { number = c.events-number.result; ask = c.kind-kind.result } in
     let same : note ≡ note_of e = λ j. record { number = c.events-number.ensures j; ask = c.kind-kind.ensures j } in
-    let ring = ring_more c.self.inside.notes c.push_back.new.self note es c.ask-answer.new.self.history e i.3 i.4 c.push_back.ensures.items same more in
+    let ring = ring_more c.self.inside.notes c.count.new.notes note es c.ask-answer.new.self.history e i.3 i.4 c.count.ensures.notes same more in
     let p = c.self.inside.core.panel.events in
     let q = c.ask-answer.new.self.panel.events in
-    let counted : q ≡ p + one_if (is_counted p (answer_seen answer)) = search (rules, step_counted) in
-    let apart : (c.events-number.result == c.events-before.result) ≡ false = search rules in
-    let up = one_more p q _ _ (is_counted p (answer_seen answer)) c.events-before.ensures c.events-number.ensures counted apart in
-    (omega (arith, up, i.0, c.add.ensures.total), i.1, i.2, ring.0, ring.1, i.5, i.6)
+    let b = is_counted p (answer_seen answer) in
+    let counted : q ≡ p + one_if b = search (rules, step_counted) in
+    let up = counted_apart p q _ _ b c.events-before.ensures c.events-number.ensures counted in
+    (omega (arith, up, counted, i.0, c.count.ensures.events), i.1, i.2, ring.0, ring.1, i.5, i.6)

@@ -12,11 +12,11 @@ returns-in_default-clause-processed g c =
 pub returns-then-goes_on-clause-processed : goal.returns-then-goes_on-clause-processed
 returns-then-goes_on-clause-processed g c =
     rw c.in-Takes.is (each-two (voice_of g.D.Desk.passes c.args.self.now) Notices (Takes c.in-Takes.message) _ _ _ _
-    (processes-is (voice_of g.D.Desk.passes c.args.self.now) Notices _ _ c.process-processed.result _
-    (went-on c.process-processed.result (sym c.goes_on.ensures ∙ c.if-goes_on.true)) c.process-processed.ensures.processed)
-    (processes-so g.D.Desk.passes _ _ (Takes c.in-Takes.message) _ _ _ c.process-processed.ensures.stays c.process-then-goes_on.ensures.processed))
+    (processes-is (voice_of g.D.Desk.passes c.args.self.now) Notices _ _ c.notice-processed.result _
+    (went-on c.notice-processed.result (sym c.goes_on.ensures ∙ c.if-goes_on.true)) c.notice-processed.ensures.processed)
+    (processes-so g.D.Desk.passes _ _ (Takes c.in-Takes.message) _ _ _ c.notice-processed.ensures.stays c.process-then-goes_on.ensures.processed))
 
 pub returns-clause-processed : goal.returns-clause-processed
 returns-clause-processed g c =
-    rw c.in-Takes.is (each-over (voice_of g.D.Desk.passes c.args.self.now) Notices (Takes c.in-Takes.message) _ _ c.process-processed.result
-    (sym c.goes_on.ensures ∙ c.if-goes_on.false) c.process-processed.ensures.processed)
+    rw c.in-Takes.is (each-over (voice_of g.D.Desk.passes c.args.self.now) Notices (Takes c.in-Takes.message) _ _ c.notice-processed.result
+    (sym c.goes_on.ensures ∙ c.if-goes_on.false) c.notice-processed.ensures.processed)
