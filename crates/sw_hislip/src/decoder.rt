@@ -8,6 +8,7 @@ use crate::header::{HEADER, read_header};
 use crate::message::{LONGEST_PAYLOAD, Message};
 use std::alloc::{AllocError, Global};
 use std::marker::Model;
+use std::mem::replace;
 use sw_base::Sequence;
 
 /// The bytes of a connection, fed in any pieces, as messages.
@@ -75,6 +76,19 @@ impl Decoder {
         ensures given { GivesNext self.old.pending result self.new.pending }
         ensures lean { IsLean self.new }
     {
+        let mut spare = Vec::new(alloc);
+        self.next_in(alloc, &mut spare)
+    }
+
+    /// The next message as `next` gives it, its payload in the memory of `spare`, which is left empty.
+    pub fn next_in(
+        &mut self,
+        alloc: Global,
+        spare: &mut Vec<u8>,
+    ) -> Result<Option<Message>, WireFault>
+        ensures given { GivesNext self.old.pending result self.new.pending }
+        ensures lean { IsLean self.new }
+    {
         let (_, unread) = self.buffer.as_slice().split_at(self.taken);
         let header = match read_header(unread)? {
             None => return Ok(None),
@@ -90,10 +104,12 @@ impl Decoder {
             return Ok(None);
         }
         let (payload, _) = body.split_at(length);
-        match Vec::from_slice(alloc, payload) {
+        spare.clear();
+        match spare.extend_from_slice(payload) {
             Err(_) => Err(WireFault::NoMemory),
-            Ok(payload) => {
+            Ok(()) => {
                 self.take(HEADER + length);
+                let payload = replace(spare, Vec::new(alloc));
                 Ok(Some(Message {
                     kind: header.kind,
                     control: header.control,

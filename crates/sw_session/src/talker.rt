@@ -30,6 +30,8 @@ pub struct Talker {
     macros: Macros,
     /// Room for the expansion of a unit, which is kept from one unit to the next.
     expansion: Vec<u8>,
+    /// Room for the answers to the next message.
+    line: Vec<u8>,
 }
 
 impl Talker {
@@ -43,6 +45,7 @@ impl Talker {
             sid,
             macros: Macros::new(alloc),
             expansion: Vec::new(alloc),
+            line: Vec::new(alloc),
         }
     }
 
@@ -61,9 +64,17 @@ impl Talker {
             text.now result.items (state desk.new self.new.macros) }
         ensures same { self.new.sid ≡ self.old.sid }
     {
-        let mut answers = Vec::new(self.alloc);
+        let mut answers = mem::replace(&mut self.line, Vec::new(self.alloc));
         self.message_into(text, desk, &mut answers);
         answers
+    }
+
+    /// Has the answers to the next message stand in this memory, whatever is in it.
+    pub fn reuse(&mut self, line: Vec<u8>)
+        ensures sid { self.new.sid ≡ self.old.sid }
+        ensures macros { self.new.macros ≡ self.old.macros }
+    {
+        self.line = line;
     }
 
     /// Talks over one program message as `message` does, and leaves the answers in `out` in place of what was there.

@@ -135,8 +135,10 @@ impl Group {
     {
         let old = self.condition;
         let new = bits & LOW_15;
-        self.event |= (!old & new & self.ptr) | (old & !new & self.ntr);
-        self.condition = new;
+        let passed = (!old & new & self.ptr) | (old & !new & self.ntr);
+        let event = self.event | passed;
+        set(&mut self.event, event);
+        set(&mut self.condition, new);
     }
 
     /// STATus:PRESet of this group.
@@ -146,5 +148,15 @@ impl Group {
         self.enable = 0;
         self.ptr = LOW_15;
         self.ntr = 0;
+    }
+}
+
+/// Sets a register where it holds something else: a mainframe that is shared writes no memory for nothing.
+#[inline(always)]
+fn set(register: &mut u16, bits: u16)
+    ensures { register.new ≡ bits }
+{
+    if *register != bits {
+        *register = bits;
     }
 }

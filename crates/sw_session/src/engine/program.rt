@@ -267,18 +267,26 @@ impl SyncSession {
     {
         let partial = replace(&mut self.partial, PartialMessage::Nothing);
         match whole(partial, part)? {
-            Some(text) => Ok(self.converse(id, text.as_slice(), said, desk)),
+            Some(text) => Ok(self.converse(id, text, said, desk)),
             None => Ok(told(said, false)),
         }
     }
 
-    /// Talks over a program message, and says its answer in parts of the client's size.
-    fn converse<D: Desk>(&mut self, id: u32, text: &[u8], said: Vec<Sent>, desk: &mut D) -> Step
+    /// Talks over a program message, and says its answer in parts of the client's size. The next answer will stand in
+    /// the message's memory.
+    fn converse<D: Desk>(
+        &mut self,
+        id: u32,
+        text: Sequence<u8>,
+        said: Vec<Sent>,
+        desk: &mut D,
+    ) -> Step
         ensures talks { LedBy D.passes desk.old desk.new (λ asked.
-            SaysMore said.items result (λ own. Converses self.old id text.now asked own self.new.macros)) }
+            SaysMore said.items result (λ own. Converses self.old id text asked own self.new.macros)) }
         ensures kept { self.new ≡ record self.old { macros = self.new.macros } }
     {
-        let bytes = self.talker.message(text, desk);
+        let bytes = self.talker.message(text.as_slice(), desk);
+        self.talker.reuse(text.into_vec());
         let mut size = SessionAnswer::Stranger;
         desk.ask_into(SessionAsk::MaxSize(self.sid), &mut size);
         respond(id, bytes, size, said)

@@ -3,17 +3,20 @@
 use std::alloc::Global;
 use std::marker::Model;
 use std::mem::replace;
+use sw_hislip::Message;
 
 /// How many bytes a read takes at most.
 const READ_BYTES: usize = 512;
 
-/// Room for what is read and for what is said. Contracts see nothing of it.
+/// Room for what is read, heard and said. Contracts see nothing of it.
 #[derive(Drop)]
 pub struct Rooms {
     alloc: Global,
     /// For what one read gives.
     pub heard: [u8; READ_BYTES],
     said: Vec<u8>,
+    /// For the payload of the message that is heard next: the memory of what was said last.
+    pub spare: Vec<u8>,
 }
 
 impl Model for Rooms {
@@ -29,6 +32,7 @@ impl Rooms {
             alloc,
             heard: [0; READ_BYTES],
             said: Vec::new(alloc),
+            spare: Vec::new(alloc),
         }
     }
 
@@ -37,8 +41,9 @@ impl Rooms {
         replace(&mut self.said, Vec::new(self.alloc))
     }
 
-    /// Keeps it for the next message.
-    pub fn keep(&mut self, said: Vec<u8>) {
+    /// Keeps it for the next message that is said, and the memory of this one for the next that is heard.
+    pub fn keep(&mut self, said: Vec<u8>, message: Message) {
         self.said = said;
+        self.spare = message.payload.into_vec();
     }
 }

@@ -83,7 +83,7 @@ impl<W: Sink, S: Sink, D: Desk> ChannelServer<'_, '_, '_, '_, W, S, D> {
                 return Err(ServeFault::NoMemory);
             };
             match self.hand_over(&sent, bytes.as_slice()) {
-                Ok(()) => self.rooms.keep(bytes),
+                Ok(()) => self.rooms.keep(bytes, sent.message),
                 Err(_) => return Err(ServeFault::Write),
             }
         }

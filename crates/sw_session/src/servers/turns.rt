@@ -73,10 +73,14 @@ fn conclude(processed: Result<AfterStep, ServeFault>) -> Result<Next, ServeFault
 }
 
 /// What the wire tells next; none where no message is whole.
-fn next_input(alloc: Global, decoder: &mut Decoder) -> Result<Option<Act>, ServeFault>
+fn next_input(
+    alloc: Global,
+    rooms: &mut Rooms,
+    decoder: &mut Decoder,
+) -> Result<Option<Act>, ServeFault>
     ensures { NextInput decoder.old.pending decoder.new.pending result }
 {
-    match decoder.next(alloc) {
+    match decoder.next_in(alloc, &mut rooms.spare) {
         Ok(None) => Ok(None),
         Ok(Some(message)) => Ok(Some(Act::Takes(message))),
         Err(WireFault::TooLarge(kind)) => Ok(Some(Act::Skips(kind))),
@@ -94,7 +98,7 @@ impl<W: Sink, S: Sink, D: Desk> ChannelServer<'_, '_, '_, '_, W, S, D> {
         ensures stays { StaysServer self.old self.new }
     {
         loop {
-            let input = match next_input(self.alloc, self.decoder) {
+            let input = match next_input(self.alloc, self.rooms, self.decoder) {
                 Ok(Some(input)) => input,
                 Ok(None) => return Ok(AfterStep::Goes),
                 Err(fault) => return Err(fault),

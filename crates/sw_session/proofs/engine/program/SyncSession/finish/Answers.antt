@@ -2,7 +2,7 @@ use Rattle.std.proofs.Common.{List, ℕ, Option, refl, ap, sym, subst, ◌∙◌
 use Rattle.sw_core.specs.declared.ask.Sid.{Sid}
 use Rattle.sw_session.specs.declared.engine.partial_message.PartialMessage.{PartialMessage}
 use Rattle.sw_session.specs.EngineStep.{LedBy}
-use Rattle.sw_session.specs.EngineSync.{SyncStanding, Converses, Finishes, SaysMore, whole}
+use Rattle.sw_session.specs.EngineSync.{SyncStanding, Finishes, SaysMore, whole}
 use Rattle.sw_session.proofs.SyncTalksLemmas.{finishes-none, finishes-some}
 use Rattle.sw_session.proofs.SyncShortLemmas.{short-else}
 use Rattle.sw_session.proofs.engine.program.SyncSession.finish.Goals as goal
@@ -19,10 +19,7 @@ returns-in-Some-clause-ok g c =
     c.in-Some.text
     (all c.self.inside.partial) c.converse.result
     (sym (c.in_ok-text.ensures ∙ ap all c.replace-partial.ensures.value) ∙ c.in-Some.is) (ap put c.replace-partial.ensures.after) c.converse.ensures.kept
-    (subst (λ (b : List ℕ).
-    LedBy g.D.Desk.passes c.args.desk.now c.converse.new.desk (λ asked.
-    SaysMore c.args.said.items c.converse.result (λ own.
-    Converses (put c.replace-partial.new.dest) c.args.id b asked own c.converse.new.self.macros))) c.as_slice.ensures c.converse.ensures.talks))
+    c.converse.ensures.talks)
 
 pub returns-in-Some-clause-same : goal.returns-in-Some-clause-same
 returns-in-Some-clause-same g c =
