@@ -48,6 +48,7 @@ impl<W: Sink, S: Sink, D: Desk> ChannelServer<'_, '_, '_, '_, W, S, D> {
     }
 
     /// Goes through what the wire has told: before a message is taken, service requests are told.
+    #[inline(always)]
     pub fn attend(&mut self, input: Act) -> Result<AfterStep, ServeFault>
         ensures processed { ProcessesEach (voice_of D.passes self.old) (acts_for input) (stands W.Sink S.Sink self.old)
             (stands W.Sink S.Sink self.new) result }
