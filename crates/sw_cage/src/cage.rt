@@ -2,7 +2,7 @@
 
 ghost use Rattle.std.specs.Prelude.{◌≡◌, ℕ, ◌-◌, ◌≤◌, List, [], ◌∷◌, Bool, true, false, None, Some, IsOk, OnOk, OnErr};
 ghost use Rattle.std.specs.Prelude.{IfOk, IfErr, slice_set, replicate, is_some, ◌↔◌, IsTrue, ◌+◌, ◌<◌, ◌^◌, ◌||◌};
-ghost use Rattle.std.specs.Prelude.{is_err};
+ghost use Rattle.std.specs.Prelude.{is_err, vec_capacity};
 ghost use Rattle.sw_base.specs.Limits.{most_slots};
 ghost use Rattle.sw_base.specs.Layout.{Channel, slot_at, is_present, has_meter, IsClash, IsExclusive};
 ghost use Rattle.sw_card.specs.Account.{closed_at, is_meter};
@@ -33,6 +33,7 @@ use crate::slots::Slots;
 use crate::taken::{Happening, Taken};
 use std::alloc::{AllocError, Global};
 use std::marker::Model;
+use std::mem::replace;
 use sw_base::{Chan, Reading};
 use sw_card::{Card, CardFault, Meter, Relay};
 use sw_trigger::Awaited;
@@ -331,8 +332,8 @@ impl<R: Relay, M: Meter> Cage<R, M> {
     }
 
     /// Begins the scan of a course that is sound for the cards and what is closed: its number is one more, and the
-    /// readings of the last one are dropped. Room for its readings is made first, so that nothing that happens to it
-    /// wants memory; after an error nothing changed.
+    /// readings of the last one are dropped. Room for its readings is made first, or theirs is taken, so that nothing
+    /// that happens to it wants memory; after an error nothing changed.
     pub fn start(&mut self, alloc: Global, course: Course) -> Result<Taken<M>, AllocError>
         requires idle { self.old.seen.scan ≡ None }
         requires number { self.old.seen.number + 1 < 2 ^ 64 }
@@ -347,7 +348,7 @@ impl<R: Relay, M: Meter> Cage<R, M> {
         ensures err { OnErr result (self.new ≡ self.old) }
     {
         self.slots.stay_safe();
-        let readings = Vec::with_capacity(alloc, course.readings() as usize)?;
+        let readings = room_for(alloc, &mut self.readings, course.readings() as usize)?;
         self.number += 1;
         self.readings = readings;
         self.scan = Some(Scan::begin(course));
@@ -477,4 +478,22 @@ impl<R: Relay, M: Meter> Cage<R, M> {
         self.readings.push_reserved(reading);
         go_past(&mut self.slots, &mut self.out, &mut self.scan, self.number)
     }
+}
+
+/// Room for so many readings, with none in it: that of the last ones where it is enough. After an error they stand.
+fn room_for(
+    alloc: Global,
+    last: &mut Vec<Reading>,
+    count: usize,
+) -> Result<Vec<Reading>, AllocError>
+    ensures items { IfOk result (λ room. room.items ≡ []) }
+    ensures enough { IfOk result (λ room. count ≤ vec_capacity room) }
+    ensures same { OnErr result (last.new ≡ last.old) }
+{
+    if last.capacity() < count {
+        return Vec::with_capacity(alloc, count);
+    }
+    let mut room = replace(last, Vec::new(alloc));
+    room.clear();
+    Ok(room)
 }

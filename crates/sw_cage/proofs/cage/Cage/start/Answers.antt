@@ -30,14 +30,17 @@ go_on-taken-requires-clause-may g c = λ there is.
     subst (λ (x : ScanSeen). MayGoOn (layout_of rack) (is_closed rack) x.course x.index) (sym here) (may_go _ s 0 go.held go.go)
 
 pub invariant_of-self : goal.invariant_of-self
-invariant_of-self g c =
+invariant_of-self g c = rw c.in_err-readings.ensures.same c.self.invariant
+
+pub invariant_of-self-2 : goal.invariant_of-self-2
+invariant_of-self-2 g c =
     let s = c.args.course in
     let seen = seen_is c.self.view_is in
     let go = begins _ s (c.self.inside.number + 1) c.in_ok-readings.readings.items c.self.invariant.good.held c.begin.ensures.slot_in
     (ap (λ (p : CageSeen). slot_at p.out s.meter) seen ∙ c.requires.home) (ap (λ (p : CageSeen). has_meter (cage_layout p) s.meter) seen ∙ c.requires.measured)
     (subst (λ (p : CageSeen). IsSound (cage_layout p) (is_among (closed_list p.cards)) s.points s.items) (sym seen) c.requires.sound) c.stay_safe.ensures.range
     refl c.in_ok-readings.ensures.items in
-    let room : reads s.items ≤ vec_capacity c.in_ok-readings.readings = omega (arith, c.in_ok-readings.ensures.exact, c.readings.ensures.readings) in
+    let room : reads s.items ≤ vec_capacity c.in_ok-readings.readings = omega (arith, c.in_ok-readings.ensures.enough, c.readings.ensures.readings) in
     let old : Occupancy = record { cards = (accounts_of c.self.inside.slots); out = c.self.inside.out } in
     let new : Occupancy = record { cards = (accounts_of c.go_on-taken.new.slots); out = c.go_on-taken.new.out } in
     go_kept _ _ s 0 _ _ go.held go.go room (goes_from old new (c.self.inside.number + 1) c.begin.result _ (taken_seen c.go_on-taken.result)
