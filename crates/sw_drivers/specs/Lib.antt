@@ -1,0 +1,7 @@
+pub mod Banks
+pub mod Boards
+pub mod Crc
+pub mod Frames
+pub mod Kept
+pub mod Readings
+pub mod Wires

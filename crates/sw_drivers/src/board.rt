@@ -1,0 +1,63 @@
+//! Boards of relays.
+
+ghost use Rattle.std.specs.Prelude.{◌≡◌, ℕ, false, replicate, slice_index_or};
+
+use crate::fault::DriverFault;
+use sw_kinds::no_flags;
+
+/// The account of a board's coils, by channel.
+pub type Account = [bool; 256];
+
+/// The account by which no coil is on.
+pub fn none_on() -> Account
+    ensures all { result ≡ replicate 256 false }
+    ensures each { (k : ℕ) → slice_index_or result k false ≡ false }
+{
+    no_flags()
+}
+
+/// A board of relays.
+///
+/// Contracts see which channels' coils are on, as far as that is known, and what the board's last answer has shown.
+pub trait Board: Drop {
+    ghost use Rattle.std.specs.Prelude.{◌≡◌, ◌≢◌, ◌≤◌, ℕ, Bool, List, OnOk, IsTrue, false, replicate, set};
+
+    // Whether the channel's coil is on, as far as is known.
+    ghost is_on: { Self → ℕ → Bool };
+
+    // The board's last answer has shown that its coils stand so, by channel, as far as it is asked.
+    ghost shows: { Self → List Bool → Type 0 };
+
+    /// Switches one coil. `Ok` only where the board has confirmed it. `before` is how the coils should stand. No other
+    /// coil comes on.
+    fn switch(&mut self, ch: u8, on: bool, before: &Account) -> Result<(), DriverFault>
+        ensures off { OnOk result (on ≡ false → is_on self.new ch ≡ false) }
+        ensures others { (k : ℕ) → k ≢ ch → IsTrue (is_on self.new k) → IsTrue (is_on self.old k) }
+        ensures shows { OnOk result (shows self.new (set before.now ch on)) };
+
+    /// Switches all coils off. `Ok` only where the board has confirmed it. None comes on.
+    fn clear(&mut self) -> Result<(), DriverFault>
+        ensures off { OnOk result ((k : ℕ) → is_on self.new k ≡ false) }
+        ensures fewer { (k : ℕ) → IsTrue (is_on self.new k) → IsTrue (is_on self.old k) }
+        ensures shows { OnOk result (shows self.new (replicate 256 false)) };
+}
+
+/// A board without hardware.
+#[derive(Drop)]
+pub struct SimBoard;
+
+impl Board for SimBoard {
+    ghost use Rattle.std.specs.Prelude.{false, ⊤};
+
+    ghost is_on = { λ _ _. false };
+
+    ghost shows = { λ _ _. ⊤ };
+
+    fn switch(&mut self, _ch: u8, _on: bool, _before: &Account) -> Result<(), DriverFault> {
+        Ok(())
+    }
+
+    fn clear(&mut self) -> Result<(), DriverFault> {
+        Ok(())
+    }
+}

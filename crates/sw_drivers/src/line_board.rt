@@ -1,0 +1,196 @@
+//! Boards of relays that obey lines.
+
+ghost use Rattle.std.specs.Prelude.{◌≡◌, ◌≤◌, IfOk, OnOk};
+ghost use Rattle.sw_drivers.specs.Wires.{IsAll};
+
+use crate::board::{Account, Board, none_on};
+use crate::fault::DriverFault;
+use crate::wire::Wire;
+use std::io::ErrorKind;
+
+/// The most bytes of an answer.
+const ANSWER: usize = 256;
+
+/// What is sent, and what must be in the answer, which ends by these bytes. Nothing is read where they are none.
+#[derive(Drop)]
+pub struct Command {
+    pub sent: Vec<u8>,
+    pub end: Vec<u8>,
+    pub wanted: Vec<u8>,
+}
+
+/// The lines that a board obeys: one for each channel to switch it on, one to switch it off, and some that switch all
+/// off. Where it tells how a channel stands, one for each channel that asks for it and wants it on, or off.
+#[derive(Drop)]
+pub struct Commands {
+    pub on: Vec<Command>,
+    pub off: Vec<Command>,
+    pub clear: Vec<Command>,
+    pub is_on: Vec<Command>,
+    pub is_off: Vec<Command>,
+}
+
+/// A board that obeys lines.
+#[derive(Drop)]
+pub struct LineBoard<W: Wire> {
+    wire: W,
+    commands: Commands,
+}
+
+impl<W: Wire> LineBoard<W> {
+    /// The board at the other end.
+    pub fn new(wire: W, commands: Commands) -> Self {
+        LineBoard { wire, commands }
+    }
+
+    /// Whether the board tells how its channels stand.
+    fn tells(&self) -> bool {
+        !self.commands.is_on.is_empty()
+    }
+
+    /// Asks how this channel stands.
+    fn ask(&mut self, ch: u8, on: bool) -> Result<(), DriverFault> {
+        let asked = if on {
+            obey_at(&mut self.wire, self.commands.is_on.as_slice(), ch)
+        } else {
+            obey_at(&mut self.wire, self.commands.is_off.as_slice(), ch)
+        };
+        match asked {
+            Err(DriverFault::Unwanted) => Err(DriverFault::Differs(ch)),
+            asked => asked,
+        }
+    }
+
+    /// Compares the account with the board's own word, where it tells it.
+    fn compare(&mut self, account: &Account) -> Result<(), DriverFault> {
+        for before in 0..u8::MAX {
+            if usize::from(before) >= self.commands.is_on.len() {
+                return Ok(());
+            }
+            self.ask(before + 1, account[usize::from(before) + 1])?;
+        }
+        Ok(())
+    }
+
+    /// Sees to it that the connection stands. A new one is made only where the board can tell that its channels do as
+    /// they should.
+    fn stand(&mut self, account: &Account) -> Result<(), DriverFault> {
+        if self.wire.is_open() && self.wire.begin().is_ok() {
+            return Ok(());
+        }
+        if !self.tells() {
+            return Err(DriverFault::NoConnection(ErrorKind::UnexpectedEof));
+        }
+        self.wire.open()?;
+        self.compare(account)
+    }
+
+    fn try_switch(&mut self, ch: u8, on: bool, before: &Account) -> Result<(), DriverFault> {
+        self.stand(before)?;
+        if on {
+            obey_at(&mut self.wire, self.commands.on.as_slice(), ch)?;
+        } else {
+            obey_at(&mut self.wire, self.commands.off.as_slice(), ch)?;
+        }
+        if self.tells() {
+            self.ask(ch, on)?;
+        }
+        Ok(())
+    }
+
+    fn try_clear(&mut self) -> Result<(), DriverFault> {
+        for command in &self.commands.clear {
+            obey(&mut self.wire, command)?;
+        }
+        self.compare(&none_on())
+    }
+}
+
+/// Sends this channel's command.
+fn obey_at<W: Wire>(wire: &mut W, commands: &[Command], ch: u8) -> Result<(), DriverFault> {
+    match commands.get(usize::from(ch).wrapping_sub(1)) {
+        Some(command) => obey(wire, command),
+        None => Err(DriverFault::Differs(ch)),
+    }
+}
+
+/// Sends a command, and reads its answer.
+fn obey<W: Wire>(wire: &mut W, command: &Command) -> Result<(), DriverFault>
+    ensures { OnOk result (IsAll (W.asked wire.new) command.now.sent.items) }
+{
+    wire.begin()?;
+    wire.send(command.sent.as_slice())?;
+    let end = command.end.as_slice();
+    if end.is_empty() {
+        return Ok(());
+    }
+    let mut answer = [0_u8; ANSWER];
+    let length = hear_line(wire, end, &mut answer)?;
+    if has(&answer[..length], command.wanted.as_slice()) {
+        Ok(())
+    } else {
+        Err(DriverFault::Unwanted)
+    }
+}
+
+/// Hears up to these bytes, and tells how many bytes came.
+fn hear_line<W: Wire>(
+    wire: &mut W,
+    end: &[u8],
+    answer: &mut [u8; ANSWER],
+) -> Result<usize, DriverFault>
+    ensures within { IfOk result (λ length. length ≤ 256) }
+    ensures asked { W.asked wire.new ≡ W.asked wire.old }
+{
+    let mut length = 0;
+    for _ in 0..ANSWER {
+        let n = wire.hear_some(&mut answer[length..])?;
+        length += n;
+        if n == 0 || length >= ANSWER {
+            return Err(DriverFault::Garbled);
+        }
+        if answer[..length].ends_with(end) {
+            return Ok(length);
+        }
+    }
+    Err(DriverFault::Garbled)
+}
+
+/// Whether these bytes stand somewhere in the text.
+fn has(text: &[u8], wanted: &[u8]) -> bool {
+    for from in 0..text.len() {
+        if text[from..].starts_with(wanted) {
+            return true;
+        }
+    }
+    wanted.is_empty()
+}
+
+impl<W: Wire> Board for LineBoard<W> {
+    ghost use Rattle.std.specs.Prelude.{false, ⊤};
+
+    ghost is_on = { λ _ _. false };
+
+    ghost shows = { λ _ _. ⊤ };
+
+    fn switch(&mut self, ch: u8, on: bool, before: &Account) -> Result<(), DriverFault> {
+        let done = self.try_switch(ch, on, before);
+        if done.is_err() {
+            self.wire.close();
+        }
+        done
+    }
+
+    /// Tries the connection that stands, and then a new one.
+    fn clear(&mut self) -> Result<(), DriverFault> {
+        if self.wire.is_open() && self.try_clear().is_ok() {
+            return Ok(());
+        }
+        self.wire.open()?;
+        let done = self.try_clear();
+        if done.is_err() {
+            self.wire.rest();
+        }
+        done
+    }
+}

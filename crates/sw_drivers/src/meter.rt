@@ -1,0 +1,98 @@
+//! Meters that speak SCPI.
+
+ghost use Rattle.std.specs.Prelude.{◌≤◌, IfOk};
+
+use crate::fault::{DriverFault, Told};
+use crate::volts::reading_of;
+use crate::wire::Wire;
+use sw_base::Reading;
+use sw_card::CardFault;
+use sw_kinds::Source;
+
+/// The most bytes of an answer.
+const ANSWER: usize = 256;
+
+/// A meter that is set up by some lines whenever it is reached anew, and answers a query by a reading.
+#[derive(Drop)]
+pub struct ScpiMeter<W: Wire, T: Told + Drop> {
+    wire: W,
+    slot: u8,
+    setup: Vec<Vec<u8>>,
+    query: Vec<u8>,
+    told: T,
+}
+
+impl<W: Wire, T: Told + Drop> ScpiMeter<W, T> {
+    /// The meter at the other end, once it is reached and set up; or why not. Each line ends as the meter wants it.
+    pub fn new(
+        wire: W,
+        slot: u8,
+        setup: Vec<Vec<u8>>,
+        query: Vec<u8>,
+        told: T,
+    ) -> Result<Self, DriverFault> {
+        let mut meter = ScpiMeter {
+            wire,
+            slot,
+            setup,
+            query,
+            told,
+        };
+        meter.reach()?;
+        Ok(meter)
+    }
+
+    fn reach(&mut self) -> Result<(), DriverFault> {
+        self.wire.open()?;
+        self.wire.begin()?;
+        for line in &self.setup {
+            self.wire.send(line.as_slice())?;
+        }
+        Ok(())
+    }
+
+    fn ask(&mut self) -> Result<Reading, DriverFault> {
+        if !self.wire.is_open() || self.wire.begin().is_err() {
+            self.reach()?;
+            self.wire.begin()?;
+        }
+        self.wire.send(self.query.as_slice())?;
+        let mut answer = [0_u8; ANSWER];
+        let length = read_line(&mut self.wire, &mut answer)?;
+        reading_of(&answer[..length])
+    }
+}
+
+/// Reads up to a line feed, and tells how many bytes stand before it.
+fn read_line<L: Wire>(link: &mut L, line: &mut [u8; ANSWER]) -> Result<usize, DriverFault>
+    ensures { IfOk result (λ length. length ≤ 256) }
+{
+    let mut length = 0;
+    for _ in 0..ANSWER {
+        let n = link.hear_some(&mut line[length..])?;
+        let told = length + n;
+        if n == 0 || told >= ANSWER {
+            return Err(DriverFault::Garbled);
+        }
+        for at in length..told {
+            if line[at] == b'\n' {
+                return Ok(at);
+            }
+        }
+        length = told;
+    }
+    Err(DriverFault::Garbled)
+}
+
+impl<W: Wire, T: Told + Drop> Source for ScpiMeter<W, T> {
+    fn sample(&mut self) -> Result<Reading, CardFault> {
+        match self.ask() {
+            Ok(reading) => Ok(reading),
+            Err(fault) => {
+                self.wire.close();
+                self.told.tell(self.slot, fault);
+                Err(CardFault)
+            }
+        }
+    }
+}
