@@ -1,8 +1,10 @@
-# make try:   in about a minute answers the lines that are typed, by a program that nothing has proved.
-# make try-serve: likewise serves HiSLIP clients on port 4880 of this machine; PORT=4881: on that port.
-# make run:   answers the lines that are typed by the proved program; the first time it proves it.
-# make serve: serves HiSLIP clients on port 4880 of this machine by the proved program, until Ctrl-D; PORT=4881: on that
+# make prove: proves and builds the program, of its crates those that changed; CRATE=own_cards: that program.
+# make run:   answers the lines that are typed by the proved program, and where that isn't there, by an unproved one,
+#             which takes about a minute to build the first time; its first line says which of the two.
+# make try:   opens the client's terminal before the unproved program, whether or not the proved one is there.
+# make serve: serves HiSLIP clients on port 4880 of this machine by the proved program, until Ctrl-C; PORT=4881: on that
 #             port; ADDRESS=192.168.1.5: at that address, for whoever reaches it.
+# make try-serve: likewise by the unproved program.
 # make test:  the whole gate.
 # make wrong: tries every wrong body, whatever is recorded of it.
 # make check CRATE=sw_lex: proves one crate.
@@ -12,20 +14,18 @@
 RT ?= rt
 export RT
 
-.PHONY: try try-serve run serve test wrong check talks bench bench-serve soak
+AT = --address $(or $(ADDRESS),127.0.0.1) --port $(or $(PORT),4880)
 
-try:
-	@examples/try
+.PHONY: prove run serve try try-serve test wrong check talks bench bench-serve soak
 
-try-serve:
-	@examples/try $(or $(PORT),4880)
+prove:
+	@build/program prove $(CRATE)
 
-run:
-	@cd crates/mainframe && $(RT) run -- run
+run try:
+	@build/program $@
 
-serve:
-	@cd crates/mainframe && $(RT) run -- --version && \
-	exec out/mainframe serve --until-end-of-input --address $(or $(ADDRESS),127.0.0.1) --port $(or $(PORT),4880)
+serve try-serve:
+	@build/program $@ $(AT)
 
 test:
 	@./gate

@@ -1,0 +1,200 @@
+"""Proofs of crates side by side, as processors and memory allow: first those with the longest chain behind them."""
+import os
+import re
+import shutil
+import signal
+import subprocess
+import time
+from typing import NamedTuple
+
+from crates import Fault, free_memory, processors
+
+DONE = re.compile(r"(?m)^checked \S+, (\d+) of (\d+)$")
+TELLING = re.compile(r": error|: not proved|: no proof|could not tell|^rattle: |^logic=|^error|Killed")
+MOST_LINES = 12  # of the prover's, where a proof fails
+MOST_JOBS = 4  # processors that one proof makes use of
+MARGIN = 0.85  # of the free memory
+LIKELY = 0.6  # of the memory that is reckoned, of which small crates take less than half
+MORE = 1.2  # times what the last run took
+EACH_JOB = 0.6  # of a proof's memory, for each further job
+
+
+class Cost(NamedTuple):
+    """What a proof took: seconds, seconds of processor time, and memory in bytes."""
+    seconds: float
+    processor: float
+    memory: float
+
+
+class Proof:
+    """A crate's proof as it runs: commands one after another, whose lines go to a file."""
+
+    def __init__(self, folder, log, commands, jobs):
+        self.folder, self.log, self.commands, self.jobs = folder, log, commands, jobs
+        self.began, self.memory, self.status = time.monotonic(), 0, None
+        self.processor, self.peak = 0, 0
+        log.write_bytes(b"")
+        self.start()
+
+    def start(self):
+        with open(self.log, "ab") as log:
+            self.process = subprocess.Popen(self.commands.pop(0), cwd=self.folder, stdin=subprocess.DEVNULL, stdout=log,
+                                            stderr=log, start_new_session=True)
+
+    def is_over(self):
+        """Whether the last command has ended, or one has failed; its status then stands in `status`."""
+        number, ended, usage = os.wait4(self.process.pid, os.WNOHANG)
+        if not number:
+            return False
+        self.status = self.process.returncode = os.waitstatus_to_exitcode(ended)
+        self.processor += usage.ru_utime + usage.ru_stime
+        self.peak = max(self.peak, usage.ru_maxrss * 1_024)
+        if self.status == 0 and self.commands:
+            self.start()
+            return False
+        return True
+
+    def seconds(self):
+        return time.monotonic() - self.began
+
+    def cost(self):
+        return Cost(self.seconds(), self.processor, self.peak)
+
+    def text(self):
+        return self.log.read_text(encoding="utf-8", errors="replace")
+
+    def functions(self):
+        """How many functions are checked, of how many."""
+        found = DONE.findall(self.text())
+        return " of ".join(found[-1]) if found else "begins"
+
+    def end(self):
+        if self.process.poll() is None:
+            os.killpg(self.process.pid, signal.SIGKILL)
+            self.process.wait()
+
+
+class Lanes:
+    """What is proved, what runs, and what waits for it. `folder` keeps the prover's lines and what each crate took."""
+
+    def __init__(self, crates, folder):
+        self.crates, self.folder = crates, folder
+        self.names = crates.closure()
+        crates.sources()
+        self.costs = self.last_costs()
+        self.done = {it for it in self.names if self.is_kept(it)}
+        self.running, self.lone = {}, set()
+        self.room, self.processors = MARGIN * free_memory(), processors()
+
+    def last_costs(self):
+        try:
+            lines = (self.folder / "costs").read_text(encoding="utf-8").splitlines()
+        except OSError:
+            return {}
+        return {name: Cost(*map(float, cost)) for name, *cost in map(str.split, lines)}
+
+    def is_kept(self, name):
+        stamp, whole = self.folder / f"{name}.stamp", self.folder / f"{name}.tar"
+        return whole.is_file() and stamp.is_file() and stamp.read_text(encoding="utf-8") == self.crates.stamp(name)
+
+    def unpack(self, name):
+        at = self.crates.made(name)
+        shutil.rmtree(at, ignore_errors=True)
+        shutil.unpack_archive(self.folder / f"{name}.tar", at)
+
+    def weight(self, name):
+        """What a crate's proof is likely to take: the seconds of the last run, or by its lines."""
+        return self.costs[name].seconds if name in self.costs else self.crates.lines(name, ".rt") / 10
+
+    def memory(self, name):
+        return MORE * self.costs[name].memory if name in self.costs else LIKELY * self.crates.memory(name)
+
+    def chain(self, name, spent=0):
+        """The seconds until the program stands, were each crate proved as soon as those below it are."""
+        above = [it for it in self.names if name in self.crates.own(it)]
+        return max(self.weight(name) - spent, 0) + max(map(self.chain, above), default=0)
+
+    def ready(self):
+        waiting = [it for it in self.names if it not in self.done and it not in self.running]
+        found = [it for it in waiting if all(below in self.done for below in self.crates.own(it))]
+        return sorted(found, key=lambda it: -self.chain(it))
+
+    def begin(self):
+        """Starts each proof for which there is a processor, and memory beside the others."""
+        ready = self.ready()
+        for at, name in enumerate(ready):
+            idle = self.processors - sum(it.jobs for it in self.running.values())
+            room = self.room - sum(it.memory for it in self.running.values())
+            need = self.memory(name)
+            is_lone = name in self.lone or any(it in self.lone for it in self.running)
+            if idle < 1 or self.running and (is_lone or need > room):
+                continue
+            # A proof gets the processors that no other waits for.
+            jobs = max(1, min(MOST_JOBS, idle // (len(ready) - at), 1 + int((room / need - 1) / EACH_JOB)))
+            self.start(name, 1 if is_lone else jobs, need)
+
+    def start(self, name, jobs, need):
+        at = self.crates.made(name)
+        shutil.rmtree(at, ignore_errors=True)
+        at.mkdir(parents=True)
+        commands = self.crates.commands(name, jobs)
+        proof = Proof(self.crates.root / "crates" / name, self.folder / f"{name}.log", commands, jobs)
+        proof.memory = need * (1 + EACH_JOB * (jobs - 1))
+        self.running[name] = proof
+
+    def look(self):
+        """Takes up the proofs that ended; gives whether there was one."""
+        ended = [it for it, proof in self.running.items() if proof.is_over()]
+        for name in ended:
+            proof = self.running.pop(name)
+            if proof.status == -signal.SIGKILL and name not in self.lone:
+                self.lone.add(name)  # most likely for memory: once more, with nothing beside it
+            elif proof.status or "\nlogic=proved " not in f"\n{proof.text()}":
+                raise Fault(self.told(name, proof))
+            elif not self.crates.is_unchanged(name):
+                raise Fault(f"files of {name} changed while it was proved: run this again")
+            else:
+                self.keep(name, proof.cost())
+        return bool(ended)
+
+    def keep(self, name, cost):
+        self.done.add(name)
+        self.costs[name] = cost
+        shutil.rmtree(self.crates.made(name) / "checked", ignore_errors=True)
+        if name != self.crates.program:
+            shutil.make_archive(str(self.folder / name), "tar", self.crates.made(name))
+            (self.folder / f"{name}.stamp").write_text(self.crates.stamp(name), encoding="utf-8")
+        lines = [f"{it} {cost.seconds:.0f} {cost.processor:.0f} {cost.memory:.0f}\n" for it, cost in self.costs.items()]
+        (self.folder / "costs").write_text("".join(lines), encoding="utf-8")
+
+    def told(self, name, proof):
+        """What matters of a proof that failed, and where all of it stands."""
+        lines = proof.text().splitlines()
+        telling = [it[:200] for it in lines if TELLING.search(it)] or lines[-3:]
+        return "\n".join([f"{name} is not proved (status {proof.status}):", *telling[:MOST_LINES],
+                          f"all that the prover said: {proof.log.relative_to(self.crates.root)}"])
+
+    def progress(self):
+        now = [f"{name} {proof.functions()}" for name, proof in self.running.items()]
+        text = "; ".join([f"proved {len(self.done)} of {len(self.names)} crates", ", ".join(now)])
+        if all(it in self.costs for it in self.names if it not in self.done):
+            left = [self.chain(it, proof.seconds()) for it, proof in self.running.items()]
+            text += f"; {max(left, default=0) / 60:.0f} minutes left"
+        return text
+
+    def prove(self, show):
+        """Proves what is not proved yet, and tells how far it is."""
+        is_news = True
+        try:
+            for name in self.done:
+                self.unpack(name)
+            while len(self.done) < len(self.names):
+                self.begin()
+                show(self.progress(), is_news)
+                time.sleep(0.5)
+                is_news = self.look()
+        finally:
+            for proof in self.running.values():
+                proof.end()
+            for name in self.names:
+                shutil.rmtree(self.crates.made(name), ignore_errors=True)
