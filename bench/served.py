@@ -1,23 +1,31 @@
 """`mainframe serve` as a process on a free port, and sessions of it, for the scripts of this folder."""
 import contextlib
+import fcntl
 import os
 import pathlib
 import socket
 import struct
 import subprocess
 import sys
+import tempfile
+import termios
 import threading
 import time
 
 sys.dont_write_bytecode = True
-sys.path.insert(0, str(pathlib.Path(__file__).resolve().parent.parent / "examples"))
+ROOT = pathlib.Path(__file__).resolve().parent.parent
+sys.path.insert(0, str(ROOT / "examples"))
 from swm import HEADER, Kind, Message, Session, SessionError
 
 SESSIONS = 16
 PATIENCE = 60  # seconds after which something is stuck
 SOON = 3  # seconds within which what is done at once is done, on a slow machine too
 MOST_GROWTH = 1_024  # kB that memory may grow by in the end, and a tenth
+END = 2  # seconds within which a server ends after its input
 IDENTITY = "OPENBENCH,SWM8,0,1.0"
+MOST = 100_000  # readings of a scan
+ALL_READINGS = ",".join(f"{1 + n / 1_000_000_000:.9f}" for n in range(MOST))
+SCAN = "ROUT:SCAN (@1!1);:TRAC:POIN {count};:TRIG:COUN {count};:INIT;*OPC?"
 CLOSED = (ConnectionResetError, BrokenPipeError)
 
 
@@ -84,6 +92,39 @@ def wait_until(what, holds):
         if time.monotonic() > end:
             raise Failure(f"{what} does not come about")
         time.sleep(0.05)
+
+
+class PipedMeter:
+    """A meter that is a pipe, and shows whether its line is taken."""
+
+    def __init__(self, path):
+        os.mkfifo(path)
+        self.pipe = open(path, "r+b", buffering=0)
+
+    def tell(self, nanovolts):
+        self.pipe.write(f"{nanovolts}\n".encode())
+
+    def is_unread(self):
+        return any(fcntl.ioctl(self.pipe, termios.FIONREAD, bytes(4)))
+
+
+@contextlib.contextmanager
+def own_cards(make_meter):
+    """The program with cards of its own, over a board that is a file, and a meter that is made at a path."""
+    program = ROOT / "crates/own_cards/out/own_cards"
+    with tempfile.TemporaryDirectory() as folder, socket.create_server(("127.0.0.1", 0)) as free:
+        port = free.getsockname()[1]
+        free.close()
+        board, meter = pathlib.Path(folder, "board"), pathlib.Path(folder, "meter")
+        board.touch()
+        made = make_meter(meter)
+        words = [program, str(port), board, meter]
+        with subprocess.Popen(words, stdin=subprocess.PIPE, stderr=subprocess.PIPE, text=True) as server:
+            try:
+                wait_until("a server", lambda: not socket.socket().connect_ex(("127.0.0.1", port)))
+                yield server, port, board, made
+            finally:
+                server.kill()
 
 
 class Served:
@@ -172,6 +213,27 @@ class Served:
             client.close()
 
 
+class Supervised(Served):
+    """A server that ends with its input."""
+
+    def __init__(self, program, *words):
+        super().__init__(program, "--until-end-of-input", *words, stdin=subprocess.PIPE)
+
+    def types(self, text):
+        self.process.stdin.write(text)
+        self.process.stdin.flush()
+
+    def end(self):
+        """Ends the input: the server ends in time, says nothing more, and no connection is left."""
+        with within(END, "the end"):
+            self.process.stdin.close()
+            same("status", self.process.wait(PATIENCE), 0)
+        self.reader.join()
+        refused = socket.socket().connect_ex(("127.0.0.1", self.port))
+        if not refused:
+            raise Failure("connections are still taken")
+
+
 class Client(Session):
     """A session that also shows its bare connections, asks for locks without an exception, and breaks off."""
 
@@ -195,7 +257,7 @@ class Client(Session):
             self.commands.sendall(start)
         for wire in (self.commands, self.events):
             wire.setsockopt(socket.SOL_SOCKET, socket.SO_LINGER, struct.pack("ii", 1, 0))
-        self.close()
+        super().end_at_once()
 
 
 class Steady(threading.Thread):

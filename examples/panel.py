@@ -4,15 +4,17 @@
     examples/panel.py [--port P] [--host H] [--page Q] [--cards SLOT=KIND:CHANNELS[:GROUP],..]
 
 Serves http://127.0.0.1:8480/, to this machine alone. It shows slots and channels with closed relays lit and groups
-coloured, what the scan awaits, the readings, the number of errors in the queue, and the status byte, twice a second.
-The page takes no command: the panel asks through a session of its own, by queries that change nothing, empty nothing
-and queue no error. While another session holds the lock, the page says so and shows what was seen last.
+coloured, what the scan waits for, the readings with their channels, the number of errors in the queue, and the status
+byte, twice a second. The panel asks through a session of its own, by queries that change nothing, empty nothing and
+queue no error. The page has one button, which takes the errors from the queue and shows their texts. While another
+session holds the lock, the page says so and shows what was seen last.
 """
 from __future__ import annotations
 
 import argparse
 import http.server
 import json
+import math
 import re
 import sys
 import threading
@@ -27,8 +29,14 @@ CARDS = "1=mux:20:1,2=matrix:16,3=mux:10:1,4=meter"  # the program's cage
 PERIOD = 0.5  # seconds between two looks
 PATIENCE = 1_000  # milliseconds that a look waits for an answer
 MOST_PLOTTED = 1_000  # readings, the last ones
-LOOK = ":ROUT:CLOS:STAT?;:STAT:OPER:COND?;:STAT:QUES:COND?;:SYST:ERR:COUN?;:TRAC:POIN:ACT?"
-AWAITED = {0: "no scan runs", 16: "a reading", 32: "the event of the TRIGger layer", 64: "the event of an ARM layer"}
+MOST_TAKEN = 32  # errors that are shown, the last ones
+LOOK = (":ROUT:CLOS:STAT?;:STAT:OPER:COND?;:STAT:QUES:COND?;:SYST:ERR:COUN?;:TRAC:POIN:ACT?"
+        ";:TRIG:SOUR?;:ARM:SOUR?;:ARM:LAY2:SOUR?;:ARM:LAY3:SOUR?")
+PLAN = ":TRAC:POIN:ACT?;:ROUT:SCAN?;:TRIG:COUN?;:ARM:COUN?;:ARM:LAY2:COUN?;:ARM:LAY3:COUN?"
+LAYERS = ["the TRIGger layer", "ARM layer 1", "ARM layer 2", "ARM layer 3"]
+DOING = {0: "no scan runs, or one pauses", 2: "is settling", 16: "measures"}  # by OPERation's condition
+WAITING = {32: LAYERS[:1], 64: LAYERS[1:]}
+AWAITED = {"BUS": "a trigger (`*TRG`)", "EXT": "an external trigger", "HOLD": "its SIGNal", "TIM": "its timer"}
 
 
 class Card(NamedTuple):
@@ -49,18 +57,47 @@ def cards_of(text: str) -> Iterator[Card]:
         yield Card(int(slot), kind, int(channels or 0), int(group or 0))
 
 
+def doing(condition: int, sources: list[str]) -> str:
+    """What the scan does, by OPERation's condition and the source of each layer."""
+    of_layer = dict(zip(LAYERS, sources))
+    waits = [f"{AWAITED[of_layer[layer]]} in {layer}" for layer in WAITING.get(condition, [])
+             if of_layer[layer] in AWAITED]
+    return f"waits for {', or '.join(waits)}" if waits else DOING.get(condition, DOING[0])
+
+
+def channels_of(held: int, scan: str, count: int, *rounds: int) -> list[str]:
+    """The positions of the last readings by a list: each of the rounds of ARM begins with the first one."""
+    positions = scan.strip("(@)").split(",")
+    if held > count * math.prod(rounds):
+        return []
+    return [positions[reading % count % len(positions)] for reading in range(max(held - MOST_PLOTTED, 0), held)]
+
+
+class Readings(NamedTuple):
+    """The last readings that were fetched, and where they stand among those that are held."""
+    held: int = 0
+    values: list[float] = []
+    channels: list[str] = []  # of each value, by the list that was set then; none where that gives fewer readings
+
+
 class Watch:
     """What was seen last of the instrument, and a session that looks again and again."""
 
     def __init__(self, port: int, host: str) -> None:
         self._address = (port, host)
-        self._seen: dict[str, Any] = {"state": "not connected", "readings": []}
+        self._fetched = Readings()
+        self._seen: dict[str, Any] = {"state": "not connected", "readings": [], "channels": [], "taken": []}
         self._lock = threading.Lock()
+        self._takes_errors = threading.Event()
 
     def seen(self) -> dict[str, Any]:
         """What is shown now."""
         with self._lock:
             return dict(self._seen)
+
+    def take_errors(self) -> None:
+        """Lets the next look take the errors from the queue."""
+        self._takes_errors.set()
 
     def run(self) -> None:
         """Looks for ever, by a new session where one ended."""
@@ -86,28 +123,31 @@ class Watch:
             time.sleep(PERIOD)
 
     def _look(self, session: Session, status: int) -> None:
-        closed, operation, questionable, errors, count = session.query(LOOK).split(";")
-        told = self.seen()
-        readings = told["readings"] if int(count) else []
-        if int(count) not in (0, told.get("count")):
-            readings = self._readings(session, readings)
+        if self._takes_errors.is_set():
+            self._tell(taken=[*self.seen()["taken"], *session.errors()][-MOST_TAKEN:])
+            self._takes_errors.clear()
+        closed, operation, questionable, errors, held, *sources = session.query(LOOK).split(";")
+        if int(held) != self._fetched.held:
+            self._fetched = self._fetch(session) if int(held) else Readings()
         self._tell(state="connected", closed=re.findall(r"\d+!\d+", closed), status=status & ~0x50, errors=int(errors),
-                   awaited=AWAITED.get(int(operation), operation), fault=bool(int(questionable) & 512),
-                   count=int(count), readings=readings)
+                   doing=doing(int(operation), sources), fault=bool(int(questionable) & 512), count=self._fetched.held,
+                   readings=self._fetched.values, channels=self._fetched.channels)
 
-    @staticmethod
-    def _readings(session: Session, before: list[float]) -> list[float]:
-        """The last readings. `FETCh?` would queue an error where another session has just cleared them, so they are
-        counted and fetched under the lock, which is held for this moment; where it isn't free, those before stay."""
+    def _fetch(self, session: Session) -> Readings:
+        """The readings that are held. `FETCh?` would queue an error where another session has just cleared them, so
+        they are counted and fetched under the lock, which is held for this moment; where it isn't free, those before
+        stay."""
         try:
             with session.lock_context(timeout=0):
-                if session.query(":TRAC:POIN:ACT?") == "0":
-                    return []
-                return session.query_ascii_values(":FETC?")[-MOST_PLOTTED:]
+                held, scan, *counts = session.query(PLAN).split(";")
+                if held == "0":
+                    return Readings()
+                values = session.query_ascii_values(":FETC?")
         except SessionError as fault:
             if not fault.came.startswith("AsyncLockResponse"):
                 raise
-            return before
+            return self._fetched
+        return Readings(len(values), values[-MOST_PLOTTED:], channels_of(len(values), scan, *map(int, counts)))
 
     def _tell(self, **news: Any) -> None:
         with self._lock:
@@ -123,14 +163,23 @@ body { font: 16px sans-serif; margin: 2em; background: #fafafa; color: #222 }
       border: 2px solid var(--group); background: #fff }
 .closed { background: #d62; color: #fff; font-weight: bold }
 #state.bad { color: #b00 } dl { display: grid; grid-template-columns: 12em auto } dd { margin: 0 }
-svg { width: 100%; max-width: 60em; height: 10em; background: #fff; border: 1px solid #ccc }
+ol { margin: 0; padding: 0; list-style: none }
+#graph { display: grid; grid-template-columns: 9em 1fr; max-width: 60em; column-gap: .5em }
+svg { width: 100%; height: 10em; background: #fff; border: 1px solid #ccc }
+.axis { display: flex; justify-content: space-between } .axis.values { flex-direction: column; text-align: right }
+table { margin-top: 1em } th, td { text-align: left; padding-right: 2em; font-weight: normal }
 </style>
 <h1>Mainframe</h1><p id="state" role="status"></p><div id="cage"></div>
-<dl><dt>the scan awaits</dt><dd id="awaited"></dd><dt>readings</dt><dd id="count"></dd>
-<dt>errors in the queue</dt><dd id="errors"></dd><dt>status byte</dt><dd id="status"></dd>
-<dt>a card failed</dt><dd id="fault"></dd></dl>
-<svg viewBox="0 0 1000 100" preserveAspectRatio="none"><polyline id="plot" fill="none" stroke="#06c"
- vector-effect="non-scaling-stroke"/></svg><p id="range"></p>
+<dl><dt>scan</dt><dd id="doing"></dd><dt>readings</dt><dd id="count"></dd>
+<dt>status byte</dt><dd id="status"></dd><dt>a card failed</dt><dd id="fault"></dd>
+<dt>errors in the queue</dt><dd><span id="errors"></span> <button id="take">take them, for all clients</button></dd>
+<dt></dt><dd><ol id="taken"></ol></dd></dl>
+<div id="graph"><div class="axis values"><span id="high"></span><span id="middle"></span><span id="low"></span></div>
+<svg viewBox="0 0 1000 100" preserveAspectRatio="none"><path d="M0,1H1000M0,50H1000M0,99H1000" stroke="#ddd"
+ vector-effect="non-scaling-stroke"/><polyline id="plot" fill="none" stroke="#06c" vector-effect="non-scaling-stroke"/>
+</svg><div></div><div class="axis"><span id="first"></span><span id="last"></span></div></div>
+<table><thead><tr><th>reading</th><th>channel, by the list set</th><th>V</th></tr></thead><tbody id="latest"></tbody>
+</table>
 <script>
 const CARDS = @CARDS@, COLOURS = ["#bbb", "#06c", "#284", "#a3a", "#c60", "#088", "#852", "#555"];
 const put = (id, text) => { document.getElementById(id).textContent = text; };
@@ -148,12 +197,29 @@ for (const card of CARDS) {
   }
   cage.append(row);
 }
-function plot(readings) {
-  const shown = readings.filter(v => Math.abs(v) < 9e37), low = Math.min(...shown), high = Math.max(...shown);
-  const x = i => i / Math.max(readings.length - 1, 1) * 1000, y = v => 95 - (v - low) / (high - low || 1) * 90;
-  const points = readings.map((v, i) => Math.abs(v) < 9e37 ? `${x(i)},${y(v)}` : "").join(" ");
+const fill = (id, items) => document.getElementById(id).replaceChildren(...items);
+function make(kind, text, ...inside) {
+  const made = document.createElement(kind);
+  made.textContent = text;
+  made.append(...inside);
+  return made;
+}
+const isOver = v => Math.abs(v) > 9e37, volts = v => `${Number(v.toPrecision(12))} V`;
+function plot(readings, before) {
+  const shown = readings.filter(v => !isOver(v)), low = Math.min(...shown), high = Math.max(...shown);
+  const x = i => i / Math.max(readings.length - 1, 1) * 1000, y = v => 99 - (v - low) / (high - low || 1) * 98;
+  const points = readings.map((v, i) => isOver(v) ? "" : `${x(i)},${y(v)}`).join(" ");
   document.getElementById("plot").setAttribute("points", points);
-  put("range", shown.length ? `the last ${readings.length}, from ${low} to ${high} V` : "");
+  put("low", shown.length ? volts(low) : "");
+  put("middle", high > low ? volts((low + high) / 2) : "");
+  put("high", high > low ? volts(high) : "");
+  put("first", readings.length ? `reading ${before + 1}` : "");
+  put("last", readings.length > 1 ? `reading ${before + readings.length}` : "");
+}
+function list(readings, channels, before) {
+  const latest = [...readings.keys()].slice(-20).reverse();
+  fill("latest", latest.map(i => make("tr", "", ...[before + i + 1, channels[i] ?? "", readings[i]]
+    .map(text => make("td", text)))));
 }
 function show(seen) {
   const state = document.getElementById("state");
@@ -161,10 +227,14 @@ function show(seen) {
   put("state", seen.state);
   const closed = new Set(seen.closed || []);
   for (const cell of document.querySelectorAll(".ch")) cell.classList.toggle("closed", closed.has(cell.id));
-  for (const id of ["awaited", "count", "errors", "status"]) put(id, seen[id] ?? "");
+  for (const id of ["doing", "count", "errors", "status"]) put(id, seen[id] ?? "");
   put("fault", seen.fault ? "yes: every relay is open" : "no");
-  plot(seen.readings);
+  fill("taken", seen.taken.map(error => make("li", error)));
+  const before = (seen.count ?? 0) - seen.readings.length;
+  plot(seen.readings, before);
+  list(seen.readings, seen.channels, before);
 }
+document.getElementById("take").onclick = () => fetch("errors", {method: "POST", headers: {"X-Panel": "take"}});
 async function look() {
   try { show(await (await fetch("state")).json()); }
   catch (fault) { put("state", `the panel does not answer: ${fault}`); }
@@ -176,7 +246,7 @@ look();
 
 
 class Handler(http.server.BaseHTTPRequestHandler):
-    """Answers GET of the page and of what was seen last, and nothing else."""
+    """Answers GET of the page and of what was seen last, and the page's POST, and nothing else."""
     server: Panel
 
     def do_GET(self) -> None:
@@ -184,6 +254,14 @@ class Handler(http.server.BaseHTTPRequestHandler):
             self._answer("text/html; charset=utf-8", self.server.page)
         elif self.path == "/state":
             self._answer("application/json", json.dumps(self.server.watch.seen()))
+        else:
+            self.send_error(404)
+
+    def do_POST(self) -> None:
+        """The button. A page of another site can't send its header here."""
+        if self.path == "/errors" and self.headers.get("X-Panel") == "take":
+            self.server.watch.take_errors()
+            self._answer("text/plain", "")
         else:
             self.send_error(404)
 

@@ -6,8 +6,7 @@
     with Session() as mainframe:
         print(mainframe.query("*IDN?"))
 
-As a program it is a terminal: it sends each line of its input, and prints each answer. Ctrl-C gives up a command that
-waits, by a device clear; Ctrl-D ends.
+As a program it is a terminal, by `terminal.py` beside it:
 
     examples/swm.py [PORT [HOST]]
 """
@@ -15,6 +14,7 @@ from __future__ import annotations
 
 import contextlib
 import enum
+import re
 import socket
 import struct
 import sys
@@ -29,7 +29,11 @@ PROLOGUE = b"HS"
 VERSION_AND_VENDOR = 0x0100_5858  # version 1.0 of the protocol, vendor `XX`
 FIRST_IDENTIFIER = 0xFFFF_FF00
 MOST_MILLISECONDS = 2**32 - 1  # the longest wait for a lock
+SETTLING = 1000  # milliseconds for which a close or a release waits, at most, until the last message is done
+MESSAGE_AVAILABLE = 16  # of the status byte
 LARGEST = 1 << 20  # bytes of the largest message that this side takes
+ERROR = re.compile(r'-?\d+,"(?:[^"]|"")*"')
+ERROR_COUNT = ":SYST:ERR:COUN?"
 
 
 class Kind(enum.IntEnum):
@@ -57,6 +61,14 @@ class SessionError(OSError):
         super().__init__(f"{came}, where {due} was due")
         self.came = came
         self.due = due
+
+
+class ScanError(Exception):
+    """A scan was refused or broken off; `errors` has what was taken from the queue then."""
+
+    def __init__(self, errors: list[str]) -> None:
+        super().__init__("; ".join(errors) or "the errors were taken by another client")
+        self.errors = errors
 
 
 class Message(NamedTuple):
@@ -159,6 +171,8 @@ class Session:
         self._sent: int | None = None  # the identifier of the last one
         self._asked = "nothing"  # the text of the last one
         self._parts = bytearray()  # of an answer whose end didn't come yet
+        self._kept: bytes | None = None  # the answer to the last message, which came before it was read
+        self._queued = 0  # how many errors were queued when the last scan had been started
         self._owed: list[Kind] = []  # what is to come on the second connection, as it was asked for
         with contextlib.ExitStack() as opened:
             end = end_of(timeout)
@@ -181,7 +195,12 @@ class Session:
         self.close()
 
     def close(self) -> None:
-        """Ends the session; its locks are freed."""
+        """Ends the session once its last message is done, or a second later; its locks are freed."""
+        self._settle()
+        self.end_at_once()
+
+    def end_at_once(self) -> None:
+        """Ends the session at once."""
         self._commands.close()
         self._events.close()
 
@@ -208,7 +227,8 @@ class Session:
 
     def read_raw(self) -> bytes:
         """The bytes of the answer to the last message; answers of earlier ones, which it interrupted, are dropped."""
-        return self._answer([self._sent])[1]
+        kept, self._kept = self._kept, None
+        return self._answer([self._sent])[1] if kept is None else kept
 
     def read(self) -> str:
         """The answer to the last message, without its line feed."""
@@ -225,17 +245,70 @@ class Session:
         return [converter(value) for value in self.query(message).split(separator)]
 
     def lines(self, text: Iterable[str]) -> Iterator[str]:
-        """Sends line by line and gives the answers, as `mainframe run` does; a line that has none gives none. Behind
-        each line a count of errors is asked for, by whose answer the end of the line's is known."""
+        """Sends line by line and gives the answers, as `mainframe run` does; a line that has none gives none."""
         for line in text:
-            self.write(line.rstrip("\n"))
-            of_line = self._sent
-            self.delivered = 1  # its answer, where it has one, is read in any case
-            self.write(":SYST:ERR:COUN?")
-            identifier, answer = self._answer([of_line, self._sent])
-            if identifier == of_line:
-                self.read_raw()
-                yield answer.decode("utf-8", "surrogateescape").rstrip("\n")
+            answer, _ = self.line(line)
+            if answer is not None:
+                yield answer
+
+    def line(self, text: str) -> tuple[str | None, int]:
+        """Sends a line; gives its answer, None where it has none, and the count of errors that are queued after it. The
+        count is asked for behind the line, and by its answer the end of the line's is known."""
+        self.write(text.rstrip("\n"))
+        of_line = self._sent
+        self.delivered = 1  # its answer, where it has one, is read in any case
+        self.write(ERROR_COUNT)
+        identifier, answer = self._answer([of_line, self._sent])
+        if identifier != of_line:
+            return None, int(answer)
+        return answer.decode("utf-8", "surrogateescape").rstrip("\n"), int(self.read_raw())
+
+    def errors(self) -> list[str]:
+        """Takes all errors from the queue, the oldest first."""
+        return [error for error in ERROR.findall(self.query(":SYST:ERR:ALL?")) if not error.startswith("0,")]
+
+    # ---- scans
+
+    def read_scan(self, timeout: float | str | None = "default") -> list[float]:
+        """Starts a scan and gives its readings, by `READ?`, within so many milliseconds. It raises ScanError where the
+        scan was refused or broken off, and SessionError where the time is over: `clear` gives up the wait, and `ABORt`
+        ends the scan."""
+        with self._within(timeout):
+            answer, _ = self.line(":READ?")
+        if answer is None:
+            raise ScanError(self.errors())
+        return [float(value) for value in answer.split(",")]
+
+    def start_scan(self) -> None:
+        """Starts a scan, and raises ScanError where it was refused; `fetch_scan` gives its readings."""
+        before = int(self.query(ERROR_COUNT))
+        _, self._queued = self.line(":INIT")
+        self._raise_more_than(before)
+
+    def fetch_scan(self, timeout: float | str | None = "default") -> list[float]:
+        """Waits until no scan runs, for so many milliseconds, and gives the readings of the last one. It raises
+        ScanError where more errors are queued than after `start_scan`, and SessionError where the time is over: then
+        it can be called again, after `clear`."""
+        before = self._queued
+        with self._within(timeout):
+            _, self._queued = self.line("*OPC?")
+        self._raise_more_than(before)
+        return self.query_ascii_values(":FETC?")
+
+    def _raise_more_than(self, before: int) -> None:
+        if self._queued > before:
+            self._queued = 0
+            raise ScanError(self.errors())
+
+    @contextlib.contextmanager
+    def _within(self, timeout: float | str | None) -> Iterator[None]:
+        """While the block runs, this is the limit of each call."""
+        before = self.timeout
+        self.timeout = before if timeout == "default" else timeout
+        try:
+            yield
+        finally:
+            self.timeout = before
 
     def trigger(self) -> None:
         """A bus trigger, as `*TRG`."""
@@ -252,11 +325,13 @@ class Session:
         while self._commands.receive(end, "DeviceClearAcknowledge").kind != Kind.DeviceClearAcknowledge:
             pass
         self._parts.clear()
+        self._kept = None
         self.delivered, self.identifier, self._sent = 0, FIRST_IDENTIFIER, None
 
     def _command(self, kind: Kind, payload: bytes = b"") -> None:
         self._commands.send(Message(kind, self.delivered, self.identifier, payload), end_of(self.timeout))
         self._parts.clear()
+        self._kept = None
         self._sent = self.identifier
         self.identifier = (self.identifier + 2) % 2**32
         self.delivered = 0
@@ -277,12 +352,33 @@ class Session:
                 self._parts.clear()
                 return message.parameter, answer
 
+    def _settle(self) -> None:
+        """Waits, for a second at most, until the last message is done: where no answer told so, a query behind it
+        does. An answer that comes meanwhile is kept for `read`."""
+        if self.delivered or self._sent is None:
+            return
+        last, asked, timeout, front = self._sent, self._asked, self.timeout, bytes(self._parts)
+        self.delivered = 1  # so that the query interrupts no answer
+        self.timeout = SETTLING if timeout is None else min(timeout, SETTLING)
+        try:
+            self.write(":SYST:ERR:COUN?")
+            self._parts += front
+            identifier, answer = self._answer([last, self._sent])
+            if identifier == last:
+                self._answer([self._sent])
+                self._kept = answer
+        except SessionError:
+            pass  # it is held, or the connection has ended
+        finally:
+            self._sent, self._asked, self.timeout = last, asked, timeout
+
     # ---- status and service requests
 
     def read_stb(self) -> int:
         """The status byte, which waits for no command; its bit 6 tells of a service request once."""
         query = Message(Kind.AsyncStatusQuery, self.delivered, self._sent or 0)
-        return self._request(query, Kind.AsyncStatusResponse).control
+        status = self._request(query, Kind.AsyncStatusResponse).control
+        return status if self._kept is None else status | MESSAGE_AVAILABLE
 
     def wait_for_srq(self, timeout: float | None = 25000) -> int:
         """Waits for a service request, and gives the status byte that it tells."""
@@ -303,7 +399,9 @@ class Session:
         return key
 
     def unlock(self) -> None:
-        """Frees the exclusive lock, or where none is held the shared one."""
+        """Frees the exclusive lock, or where none is held the shared one, once the last message is done, or a second
+        later."""
+        self._settle()
         code = self._request(Message(Kind.AsyncLock), Kind.AsyncLockResponse).control
         if code not in (1, 2):
             raise SessionError(f"AsyncLockResponse {code} (no lock is held)", "a release")
@@ -361,25 +459,6 @@ class Session:
                 raise SessionError(str(message), wanted.name)
 
 
-def terminal(port: int = PORT, host: str = "127.0.0.1") -> int:
-    """Sends the lines of standard input and prints their answers; tells the status of the process."""
-    try:
-        with Session(port, host) as session:
-            session.timeout = None
-            for line in sys.stdin:
-                try:
-                    for answer in session.lines([line]):
-                        print(answer, flush=True)
-                except KeyboardInterrupt:
-                    session.clear()
-                    print("given up", file=sys.stderr)
-    except KeyboardInterrupt:
-        return 130
-    except SessionError as fault:
-        print(f"swm: {fault}", file=sys.stderr)
-        return 1
-    return 0
-
-
 if __name__ == "__main__":
+    from terminal import terminal
     sys.exit(terminal(*map(int, sys.argv[1:2]), *sys.argv[2:]))

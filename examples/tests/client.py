@@ -1,10 +1,11 @@
 """Each call of the client, `examples/swm.py`, over a served program; and PyVISA's order of messages, byte by byte."""
 import contextlib
+import select
 import socket
 import threading
 import time
 
-from served import IDENTITY, PATIENCE, SESSIONS, Failure, receive, same, send, wait_until
+from served import IDENTITY, PATIENCE, SESSIONS, SOON, Failure, receive, same, send, wait_until, within
 from swm import HEADER, Kind, Session, SessionError
 
 ROUNDS = 3_000  # of PyVISA's order of messages, none of which may be interrupted
@@ -44,8 +45,8 @@ def asks_and_reads(served):
 
 def asks_for_values(served):
     with session(served) as mainframe:
-        mainframe.write("*RST;:ROUT:SCAN (@3!2,2!5);:TRIG:COUN 4;:INIT")
-        readings = mainframe.query_ascii_values("*WAI;:FETC?")
+        mainframe.write("*RST;:ROUT:SCAN (@3!2,2!5);:TRIG:COUN 4")
+        readings = mainframe.query_ascii_values("READ?")
         same("readings", len(readings), 4)
         same("steps", [round(b - a, 9) for a, b in zip(readings, readings[1:])], [1e-9] * 3)
         same("whole numbers", mainframe.query_ascii_values("ROUT:CLOS? (@2!5,3!2)", converter=int), [0, 0])
@@ -71,8 +72,8 @@ def splits_long_messages(served):
         same("the longest message", mainframe.read(), IDENTITY)
         mainframe.write("*IDN?".ljust(200_000))
         same("a longer one", mainframe.query("SYST:ERR?"), '-363,"Input buffer overrun"')
-        mainframe.write("*RST;:ROUT:SCAN (@1!7);:TRAC:POIN 20000;:TRIG:COUN 20000;:INIT")
-        same("many readings", len(mainframe.query_ascii_values("*WAI;:FETC?")), 20_000)
+        mainframe.write("*RST;:ROUT:SCAN (@1!7);:TRAC:POIN 20000;:TRIG:COUN 20000")
+        same("many readings", len(mainframe.query_ascii_values("READ?")), 20_000)
         mainframe.write("*RST")
 
 
@@ -117,6 +118,16 @@ def talks_in_lines(served):
         told = [IDENTITY, "1;1", "(@1!9)", '-113,"Undefined header"', NO_ERROR]
         same("answers", list(mainframe.lines(text)), told)
         same("after them", mainframe.query("SYST:ERR?"), NO_ERROR)
+
+
+def tells_of_errors(served):
+    """A line's answer, and the count of errors after it; then the errors, which leave the queue."""
+    with session(served) as mainframe:
+        same("no line", (mainframe.line("*CLS"), mainframe.errors()), ((None, 0), []))
+        same("a line", mainframe.line("*IDN?;FOO\n"), (IDENTITY, 1))
+        same("another", mainframe.line("ROUT:CLOS (@1!1,3!1)"), (None, 2))
+        same("errors", mainframe.errors(), ['-113,"Undefined header"', '-221,"Settings conflict"'])
+        same("after them", mainframe.line("SYST:ERR?"), (NO_ERROR, 0))
 
 
 def triggers(served):
@@ -203,6 +214,84 @@ def waits_for_a_lock(served):
         same("after it", holder.read(), IDENTITY)
 
 
+# ---- what was sent last
+
+
+def receive_whole(commands):
+    """The messages of a program message."""
+    parts = [receive(commands)]
+    while parts[-1].kind != Kind.DataEnd:
+        parts.append(receive(commands))
+    return parts
+
+
+def answers_behind_the_last(commands, events):
+    """Takes a command and the query behind it; nothing else comes until that is answered."""
+    sent = [receive_whole(commands) for _ in range(2)]
+    same("what is sent", [b"".join(part.payload for part in parts) for parts in sent],
+         [b"ROUT:OPEN:ALL\n", b":SYST:ERR:COUN?\n"])
+    same("whether the query interrupts", sent[1][0].control, 1)
+    same("what comes before its answer", select.select([commands, events], [], [], 0.2)[0], [])
+    send(commands, Kind.DataEnd, 0, sent[1][-1].parameter, b"0\n")
+
+
+def closes_once_all_is_done(_):
+    """Also where the instrument would drop a command whose client has ended: it is answered before."""
+    ended = []
+
+    def script(commands, events):
+        answers_behind_the_last(commands, events)
+        ended.append(commands.recv(1))
+
+    with scripted(script) as mainframe:
+        mainframe.write("ROUT:OPEN:ALL")
+        mainframe.close()
+        wait_until("the end of the connection", lambda: ended)
+    same("what comes last", ended, [b""])
+
+
+def releases_once_all_is_done(_):
+    """Also where the instrument would free the lock before a command that came earlier."""
+    def script(commands, events):
+        answers_behind_the_last(commands, events)
+        same("a release", receive(events)[:2], (Kind.AsyncLock, 0))
+        send(events, Kind.AsyncLockResponse, 1)
+        send(commands, Kind.DataEnd, 0, receive(commands).parameter, b"1\n")
+
+    with scripted(script) as mainframe:
+        mainframe.write("ROUT:OPEN:ALL")
+        mainframe.unlock()
+        same("an answer", mainframe.query("*OPC?"), "1")
+
+
+def keeps_an_answer_at_a_release(served):
+    with session(served) as mainframe:
+        mainframe.write("*CLS")
+        for message in ("*IDN?", "FOO?"):
+            mainframe.lock_excl()
+            mainframe.write(message)
+            mainframe.unlock()
+            same("message available", mainframe.read_stb() & 16, 16 if message == "*IDN?" else 0)
+            if message == "*IDN?":
+                same("the answer", mainframe.read(), IDENTITY)
+        same("errors", mainframe.query("SYST:ERR?;ERR?"), f'-113,"Undefined header";{NO_ERROR}')
+        mainframe.write(WAITING)
+        mainframe.query("STAT:OPER:COND?")
+        mainframe.lock_excl()
+        mainframe.write("*OPC?;*IDN?")
+        with within(SOON, "a release behind what is held"):
+            mainframe.unlock()
+        with session(served) as other:
+            other.write("ABOR")
+        same("the answer", mainframe.read(), f"1;{IDENTITY}")
+        mainframe.write(WAITING)
+        mainframe.write("*OPC?")
+        with within(SOON, "a close behind what is held"):
+            mainframe.close()
+    with session(served) as mainframe:
+        mainframe.write("*RST")
+
+
 # ---- faults
 
 
@@ -224,8 +313,8 @@ def names_what_came(served):
 
 
 @contextlib.contextmanager
-def scripted(script):
-    """A session of an instrument that does what the script does with its two connections, once it has begun."""
+def instrument(script):
+    """The port of an instrument that does what the script does with the two connections of a session that has begun."""
     def serve():
         with listener.accept()[0] as commands:
             receive(commands)
@@ -240,9 +329,23 @@ def scripted(script):
     with socket.create_server(("127.0.0.1", 0)) as listener:
         server = threading.Thread(target=serve, daemon=True)
         server.start()
-        with Session(listener.getsockname()[1], timeout=PATIENCE * 1_000) as mainframe:
-            yield mainframe
+        yield listener.getsockname()[1]
         server.join(PATIENCE)
+
+
+def receive_text(commands):
+    """The text of the next program message, whatever parts it comes in, and its identifier."""
+    text, message = b"", receive(commands)
+    while message.kind == Kind.Data:
+        text, message = text + message.payload, receive(commands)
+    return (text + message.payload).decode(), message.parameter
+
+
+@contextlib.contextmanager
+def scripted(script):
+    """A session of such an instrument."""
+    with instrument(script) as port, Session(port, timeout=PATIENCE * 1_000) as mainframe:
+        yield mainframe
 
 
 def passes_over_what_comes_late(_):
@@ -345,7 +448,9 @@ def keeps_pyvisas_order(served):
 
 
 CHECKS = [
+    tells_of_errors,
     asks_and_reads, asks_for_values, writes_blocks, splits_long_messages, drops_interrupted_answers, keeps_time,
-    talks_in_lines, triggers, clears, tells_of_service_requests, locks, waits_for_a_lock, names_what_came,
+    talks_in_lines, tells_of_errors, triggers, clears, tells_of_service_requests, locks, waits_for_a_lock,
+    closes_once_all_is_done, releases_once_all_is_done, keeps_an_answer_at_a_release, names_what_came,
     passes_over_what_comes_late, keeps_parts_of_an_answer, refuses_what_is_no_answer, keeps_pyvisas_order,
 ]

@@ -1,6 +1,7 @@
 """What the documents show, run as it stands there over a fresh program, and compared with what stands behind it.
 
-- Indented lines behind `> ` are typed into `run`, and through the client into `serve`; what stands below is answered.
+- Indented lines behind `> ` are typed into `run`, and into the client's terminal before `serve`; what stands below is
+  answered.
 - Indented lines behind `$ ` are commands of a shell that knows `mainframe`; what stands below comes out.
 - A fenced piece of Python is run with `mainframe` as a session of `serve`; the next fenced piece is what it prints.
   Where it takes PyVISA, the client stands in its place.
@@ -47,12 +48,12 @@ def pairs(text, mark):
 
 
 def check_session(program, text):
-    typed, told = pairs(text, "> ")
-    done = subprocess.run([program, "run"], input="\n".join(typed) + "\n", text=True, capture_output=True,
-                          timeout=PATIENCE)
-    same("answers of `run`", done.stdout.splitlines(), told)
-    with Served(program) as served, swm.Session(served.port) as mainframe:
-        same("answers of `serve`", list(mainframe.lines(typed)), told)
+    lines, told = pairs(text, "> ")
+    typed = "".join(f"{line}\n" for line in lines)
+    with Served(program) as served:
+        for words in [[program, "run"], [ROOT / "examples/swm.py", str(served.port)]]:
+            done = subprocess.run(words, input=typed, text=True, capture_output=True, timeout=PATIENCE)
+            same(f"answers of {words}", done.stdout.splitlines(), told)
 
 
 def check_shell(program, text):
@@ -63,7 +64,7 @@ def check_shell(program, text):
         for command in re.split(r"^\$ ", text, flags=re.M)[1:]:
             typed, _, told = command.partition("\n")
             done = subprocess.run(["bash", "-c", typed], stdout=subprocess.PIPE, stderr=subprocess.STDOUT, text=True,
-                                  stdin=subprocess.DEVNULL, timeout=PATIENCE, env=environment)
+                                  stdin=subprocess.DEVNULL, timeout=PATIENCE, env=environment, cwd=ROOT)
             same(typed, done.stdout, told)
 
 

@@ -10,9 +10,12 @@ import subprocess
 import sys
 import tempfile
 
+import panel
 from served import PATIENCE, Failure, Served, same, wait_until
 
 HERE = pathlib.Path(__file__).resolve().parent.parent
+AT_REST = "no scan runs, or one pauses"
+AWAITS_TRIGGER = "waits for a trigger (`*TRG`) in the TRIGger layer"
 BROWSERS = ("chromium", "chromium-browser", "google-chrome")
 
 
@@ -24,11 +27,11 @@ class Page:
         self.process = subprocess.Popen(arguments, stdout=subprocess.PIPE, text=True)
         self.port = int(re.search(r"127\.0\.0\.1:(\d+)/", self.process.stdout.readline())[1])
 
-    def ask(self, path, method="GET"):
+    def ask(self, path, method="GET", **headers):
         """The status and the text of an HTTP answer."""
         connection = http.client.HTTPConnection("127.0.0.1", self.port, timeout=PATIENCE)
         with contextlib.closing(connection):
-            connection.request(method, path)
+            connection.request(method, path, headers=headers)
             answer = connection.getresponse()
             return answer.status, answer.read().decode()
 
@@ -44,6 +47,11 @@ class Page:
         self.process.stdout.close()
 
 
+def press(page):
+    """Presses the button."""
+    return page.ask("/errors", "POST", **{"X-Panel": "take"})[0]
+
+
 def page_of(port, *words):
     return contextlib.closing(Page(port, *words))
 
@@ -57,7 +65,8 @@ def the_page_is_served(program):
         same("cards", cards, [{"slot": 2, "kind": "matrix", "channels": 16, "group": 0},
                               {"slot": 7, "kind": "mux", "channels": 3, "group": 5}])
         same("another path", page.ask("/state/x")[0], 404)
-        same("another method", [page.ask(path, "POST")[0] for path in ("/", "/state")], [501, 501])
+        same("another method", [page.ask(path, "PUT")[0] for path in ("/", "/state")], [501, 501])
+        same("a POST", [page.ask(path, "POST")[0] for path in ("/", "/state", "/errors")], [404, 404, 404])
         bound = pathlib.Path("/proc/net/tcp").read_text()
         same("where it is bound", re.findall(rf"(\S+):{page.port:04X} 00000000:0000 0A", bound), ["0100007F"])
 
@@ -65,16 +74,65 @@ def the_page_is_served(program):
 def the_panel_shows_what_is(program):
     """Relays, a scan that waits, readings, errors and the status byte; what it asks leaves nothing behind."""
     with Served(program) as served, served.join() as mainframe, page_of(served.port) as page:
-        page.comes_to_show(state="connected", closed=[], awaited="no scan runs", errors=0, readings=[], status=0)
+        page.comes_to_show(state="connected", closed=[], doing=AT_REST, errors=0, readings=[], status=0)
         mainframe.write("ROUT:CLOS (@2!3,3!10);CLOS (@1!1)")
         page.comes_to_show(closed=["2!3", "3!10"], errors=1, status=4)
         mainframe.write("*CLS;:ROUT:OPEN:ALL;:ROUT:SCAN (@1!2,3!4);:TRIG:COUN 2;SOUR BUS;:INIT;*TRG")
-        page.comes_to_show(awaited="the event of the TRIGger layer", count=1, readings=[1.0])
+        page.comes_to_show(doing=AWAITS_TRIGGER, count=1, readings=[1.0], channels=["1!2"])
         mainframe.write("*TRG")
-        page.comes_to_show(awaited="no scan runs", count=2, readings=[1.0, 1.000000001])
+        page.comes_to_show(doing=AT_REST, count=2, readings=[1.0, 1.000000001], channels=["1!2", "3!4"])
         same("what it left", mainframe.query("SYST:ERR:COUN?;:STAT:OPER?;*ESR?"), "0;48;0")
+        mainframe.write("TRIG:SOUR IMM;:ROUT:CHAN:DEL 3600;:INIT")
+        page.comes_to_show(doing="is settling", closed=["1!2"], count=0)
         mainframe.write("*RST")
-        page.comes_to_show(count=0, readings=[], errors=0)
+        page.comes_to_show(doing=AT_REST, closed=[], count=0, readings=[], errors=0)
+
+
+def what_a_scan_waits_for_is_told(program):
+    """By the source of each layer, TRIGger's or one or more of ARM's."""
+    with Served(program) as served, served.join() as mainframe, page_of(served.port) as page:
+        mainframe.write("ROUT:SCAN (@1!1)")
+        for sources, told in [
+            (":TRIG:SOUR HOLD", "its SIGNal in the TRIGger layer"),
+            (":TRIG:SOUR EXT", "an external trigger in the TRIGger layer"),
+            (":TRIG:SOUR TIM;TIM 3600", "its timer in the TRIGger layer"),
+            (":ARM:LAY2:SOUR BUS", "a trigger (`*TRG`) in ARM layer 2"),
+            (":ARM:LAY3:SOUR TIM;TIM 3600", "a trigger (`*TRG`) in ARM layer 2, or its timer in ARM layer 3"),
+        ]:
+            mainframe.write(f"{sources};:INIT")
+            page.comes_to_show(doing=f"waits for {told}", count=0)
+            mainframe.write("ABOR")
+        same("errors", mainframe.query("*RST;:SYST:ERR:ALL?"), '0,"No error"')
+
+
+def each_reading_has_its_channel(program):
+    """Each round of ARM begins with the first position; a list that gives fewer readings names none of them."""
+    with Served(program) as served, served.join() as mainframe, page_of(served.port) as page:
+        mainframe.write("ROUT:SCAN (@1!1&2!1,3!2);:TRIG:COUN 3;:ARM:COUN 2;:INIT")
+        page.comes_to_show(count=6, channels=["1!1&2!1", "3!2", "1!1&2!1"] * 2)
+        mainframe.write("*WAI;:ROUT:SCAN (@2!1);:ARM:COUN 1;:TRIG:COUN 1100;:TRAC:POIN 1100;:INIT")
+        page.comes_to_show(count=1_100, channels=["2!1"] * panel.MOST_PLOTTED)
+    for held, scan, counts, told in [(1, "(@1!1,1!2)", (1, 1, 1, 1), ["1!1"]), (3, "(@1!1,1!2)", (2, 1, 1, 1), []),
+                                     (4, "(@1!1,1!2)", (1, 2, 2, 1), ["1!1"] * 4),
+                                     (5, "(@1!1,1!2)", (4, 1, 1, 2), ["1!1", "1!2", "1!1", "1!2", "1!1"])]:
+        same(f"{held} of {scan}", panel.channels_of(held, scan, *counts), told)
+
+
+def the_button_takes_the_errors(program):
+    """It alone: their texts are shown, behind those before, and the queue is empty."""
+    with Served(program) as served, served.join() as mainframe, page_of(served.port) as page:
+        shown = []
+        for lines, errors in [
+            (["FOO", "ROUT:CLOS (@1!1,3!1)"], ['-113,"Undefined header"', '-221,"Settings conflict"']),
+            (["*ESE 256"], ['-222,"Data out of range"']),
+        ]:
+            for line in lines:
+                mainframe.write(line)
+            page.comes_to_show(errors=len(errors), taken=shown)
+            same("the button", press(page), 200)
+            shown = shown + errors
+            page.comes_to_show(errors=0, taken=shown)
+            same("what is left", mainframe.query("SYST:ERR:COUN?"), "0")
 
 
 def drawn(browser, page):
@@ -86,22 +144,26 @@ def drawn(browser, page):
     if ran.returncode or "</html>" not in ran.stdout:
         raise Failure(f"the browser ends with status {ran.returncode}: {ran.stdout[:200]!r}")
     lit = re.findall(r'class="ch closed" id="([^"]+)"', ran.stdout)
-    return lit, dict(re.findall(r'<(?:p|dd)[^>]* ?id="(\w+)"[^>]*>([^<]*)<', ran.stdout))
+    return lit, dict(re.findall(r'<(?:p|dd|span|ol)[^>]* ?id="(\w+)"[^>]*>(?:<li>)?([^<]*)<', ran.stdout))
 
 
 def a_browser_draws_the_page(program):
-    """Closed channels are lit, and what the scan awaits, its readings and the errors stand there."""
+    """Closed channels are lit, and what the scan waits for, its readings, the axes and the errors stand there."""
     browser = next(filter(None, map(shutil.which, BROWSERS)), None)
     if not browser:
         return
     with Served(program) as served, served.join() as mainframe, page_of(served.port) as page:
         mainframe.write("ROUT:CLOS (@2!3);:ROUT:SCAN (@1!2&2!1,3!4);:TRIG:COUN 2;SOUR BUS;:INIT;*TRG")
         mainframe.write("ROUT:CLOS (@3!1)")
-        page.comes_to_show(awaited="the event of the TRIGger layer", count=1, errors=1)
+        page.comes_to_show(doing=AWAITS_TRIGGER, count=1, errors=1)
+        press(page)
+        page.comes_to_show(errors=0)
+        mainframe.write("FOO")
+        page.comes_to_show(errors=1)
         lit, texts = drawn(browser, page)
         same("lit channels", lit, ["2!3"])
-        told = {"state": "connected", "awaited": "the event of the TRIGger layer", "count": "1", "errors": "1",
-                "status": "4", "fault": "no"}
+        told = {"state": "connected", "doing": AWAITS_TRIGGER, "count": "1", "errors": "1", "status": "4",
+                "fault": "no", "taken": '-221,"Settings conflict"', "low": "1 V", "high": "", "first": "reading 1", "last": ""}
         same("texts", {name: texts.get(name) for name in told}, told)
 
 
@@ -124,5 +186,6 @@ def the_panel_awaits_a_mainframe(program):
         wait_until("a word of its end", lambda: page.seen()["state"].startswith("not connected"))
 
 
-CHECKS = [the_page_is_served, the_panel_shows_what_is, a_browser_draws_the_page, the_panel_outlives_a_lock,
+CHECKS = [the_page_is_served, the_panel_shows_what_is, what_a_scan_waits_for_is_told, each_reading_has_its_channel,
+          the_button_takes_the_errors, a_browser_draws_the_page, the_panel_outlives_a_lock,
           the_panel_awaits_a_mainframe]

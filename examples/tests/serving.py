@@ -3,48 +3,18 @@
 Also the program with cards of its own, from a client's first message to the board's last line.
 """
 import contextlib
-import os
-import pathlib
 import re
 import resource
 import socket
 import subprocess
-import tempfile
 import time
 
-from served import IDENTITY, PATIENCE, SOON, Client, Failure, Served, receive, same, within
-from served import wait_until
+from served import ALL_READINGS, END, IDENTITY, MOST, PATIENCE, SCAN, SOON, Client, Failure, PipedMeter, Served, \
+    Supervised, own_cards, receive, same, within
 from streams import message
 from terminals import END as CTRL_D
 from terminals import Terminal
 from swm import SessionError
-
-ROOT = pathlib.Path(__file__).resolve().parent.parent.parent
-END = 2  # seconds within which a server ends after its input
-SCAN = "ROUT:SCAN (@1!1);:TRAC:POIN {count};:TRIG:COUN {count};:INIT;*OPC?"
-MOST = 100_000  # readings of a scan
-ALL_READINGS = ",".join(f"{1 + n / 1_000_000_000:.9f}" for n in range(MOST))
-
-
-class Supervised(Served):
-    """A server that ends with its input."""
-
-    def __init__(self, program, *words):
-        super().__init__(program, "--until-end-of-input", *words, stdin=subprocess.PIPE)
-
-    def types(self, text):
-        self.process.stdin.write(text)
-        self.process.stdin.flush()
-
-    def end(self):
-        """Ends the input: the server ends in time, says nothing more, and no connection is left."""
-        with within(END, "the end"):
-            self.process.stdin.close()
-            same("status", self.process.wait(PATIENCE), 0)
-        self.reader.join()
-        refused = socket.socket().connect_ex(("127.0.0.1", self.port))
-        if not refused:
-            raise Failure("connections are still taken")
 
 
 def ends_while(play):
@@ -59,7 +29,7 @@ def ends_while(play):
 
 
 def with_nobody(_served, _joins):
-    pass
+    time.sleep(1)  # by then the server has looked at its input, whose end from the start it would tell
 
 
 def behind_text_that_nobody_asked_for(served, _joins):
@@ -118,7 +88,7 @@ def at_a_terminal(program):
 
 
 def a_pipe_whose_writer_is_killed(program):
-    """As a supervisor's unit has it: what holds the pipe is ended, and the shell ends with the server."""
+    """What holds the pipe is ended, and the shell ends with the server."""
     with socket.create_server(("127.0.0.1", 0)) as free:
         port = free.getsockname()[1]
     command = f"sleep 3600 | exec '{program}' serve --until-end-of-input --port {port}"
@@ -127,6 +97,18 @@ def a_pipe_whose_writer_is_killed(program):
         with within(END, "the end"):
             subprocess.run(["pkill", "-P", str(shell.pid), "-x", "sleep"], check=True)
             same("status", shell.wait(PATIENCE), 0)
+
+
+def an_input_that_has_ended_from_the_start(program):
+    """As by `&` in a script: the server says why it ends."""
+    with contextlib.closing(socket.create_server(("127.0.0.1", 0))) as free:
+        port = free.getsockname()[1]
+    done = subprocess.run([program, "serve", "--until-end-of-input", "--port", str(port)], stdin=subprocess.DEVNULL,
+                          capture_output=True, text=True, timeout=PATIENCE)
+    same("status", done.returncode, 0)
+    same("what is told", done.stderr.splitlines(), [
+        f"mainframe: listening on 127.0.0.1:{port}",
+        "mainframe: standard input had ended from the start, and the server ends with it"])
 
 
 def the_message_that_the_end_meets_is_answered_whole(program):
@@ -253,34 +235,16 @@ def check_remarks(told):
     same("sessions", sorted(int(session) for _, session in joining), sorted([1, 1, *range(1, 17), *range(1, 17)]))
 
 
-@contextlib.contextmanager
-def rack(*lines):
-    """The program with cards of its own, over a board and a meter that are files, and a client of it."""
-    program = ROOT / "crates/own_cards/out/own_cards"
-    with tempfile.TemporaryDirectory() as folder, socket.create_server(("127.0.0.1", 0)) as free:
-        port = free.getsockname()[1]
-        free.close()
-        board, meter = pathlib.Path(folder, "board"), pathlib.Path(folder, "meter")
-        board.touch()
-        meter.write_text("".join(f"{line}\n" for line in lines))
-        words = [program, str(port), board, meter]
-        with subprocess.Popen(words, stdin=subprocess.PIPE, stderr=subprocess.PIPE, text=True) as server:
-            try:
-                wait_until("a server", lambda: not socket.socket().connect_ex(("127.0.0.1", port)))
-                yield server, port, board
-            finally:
-                server.kill()
-
-
 def cards_of_ones_own(_program):
-    with rack(7, "over") as (server, port, board), Client(port, timeout=PATIENCE * 1_000) as client:
+    readings = lambda meter: meter.write_text("7\nover\n")
+    with own_cards(readings) as (server, port, board, _), Client(port, timeout=PATIENCE * 1_000) as client:
         same("identity", client.query("*IDN?"), IDENTITY)
         client.write("ROUT:CLOS (@3!1:3!3)")
         client.write("ROUT:CLOS (@1!8);CLOS (@2!1)")
         same("a clash of both multiplexers", client.query("SYST:ERR?"), '-221,"Settings conflict"')
         same("closed", client.query("ROUT:CLOS:STAT?"), "(@1!8,3!1,3!2,3!3)")
-        same("scan", client.query("ROUT:OPEN (@1!8);SCAN (@1!1,2!1);:TRIG:COUN 2;:INIT;*OPC?;:FETC?"),
-             "1;0.000000007,9.9E+37")
+        same("scan", client.query("ROUT:OPEN (@1!8);SCAN (@1!1,2!1);:TRIG:COUN 2;:READ?"),
+             "0.000000007,9.9E+37")
         with within(END, "the end"):
             server.stdin.close()
             same("status", server.wait(PATIENCE), 0)
@@ -291,10 +255,57 @@ def cards_of_ones_own(_program):
               "1 close 1", "1 open 1", "2 close 1", "2 open 1"])
 
 
+def a_scan_that_is_read_and_fails(_program):
+    """The meter's second line is no reading: nothing is told of that scan, and the next one is read."""
+    readings = lambda meter: meter.write_text("7\nnone\n8\n9\n")
+    with own_cards(readings) as (_server, port, _board, _), Client(port, timeout=PATIENCE * 1_000) as client:
+        client.write("ROUT:SCAN (@1!1,2!1);:TRIG:COUN 2")
+        same("nothing", client.query("READ?;:STAT:QUES:COND?;:SYST:ERR:ALL?"),
+             '512;-240,"Hardware error",-230,"Data corrupt or stale"')
+        same("the next", client.query("READ?;:STAT:QUES:COND?"), "0.000000008,0.000000009;0")
+
+
+def settled(board, meter, closings, unread_at):
+    """How long a position was closed before the meter's line was taken, and when that was still unread. The clock is
+    looked at before each look at the board's file that finds no more closings than these, and again once the line is
+    found taken, so the time is never told as less than it was."""
+    open_at = unread_at
+    end = unread_at + PATIENCE
+    while unread_at < end:
+        looked_at = time.monotonic()
+        if board.read_text().count("close") <= closings:
+            open_at = looked_at
+        if not meter.is_unread():
+            return time.monotonic() - open_at, unread_at
+        unread_at = looked_at
+        time.sleep(0.001)
+    raise Failure("no reading is taken")
+
+
+def a_position_is_read_once_it_has_settled(_program):
+    """Each of five readings is taken 20 ms after the board was told to close its position."""
+    with own_cards(PipedMeter) as (_server, port, board, meter), Client(port, timeout=PATIENCE * 1_000) as client:
+        meter.tell(0)
+        unread_at = time.monotonic()
+        client.write("ROUT:SCAN (@1!1,2!3);:ROUT:CHAN:DEL 20 MS;:TRIG:COUN 5;:INIT")
+        for reading in range(5):
+            seconds, unread_at = settled(board, meter, reading, unread_at)
+            if seconds < 0.02:
+                raise Failure(f"reading {reading} is taken {seconds:.4f} s after its closing")
+            meter.tell(reading + 1)
+        same("readings", client.query("*OPC?;:FETC?"),
+             "1;0.000000000,0.000000001,0.000000002,0.000000003,0.000000004")
+        same("what the boards were told", [line for line in board.read_text().splitlines() if "off" not in line],
+             ["1 close 1", "1 open 1", "2 close 3", "2 open 3", "1 close 1", "1 open 1",
+              "2 close 3", "2 open 3", "1 close 1", "1 open 1"])
+
+
 CHECKS = [ends_while(play) for play in (
     with_nobody, behind_text_that_nobody_asked_for, beside_sixteen_idle_clients, beside_a_held_query,
     beside_a_lock_and_who_waits_for_it, beside_a_pause_of_an_hour, beside_an_answer_that_nobody_reads,
     beside_half_a_message)]
-CHECKS += [at_a_terminal, a_pipe_whose_writer_is_killed, the_message_that_the_end_meets_is_answered_whole, an_answer_of_all_readings, a_pause_holds_no_session_up,
+CHECKS += [at_a_terminal, an_input_that_has_ended_from_the_start, a_pipe_whose_writer_is_killed,
+           the_message_that_the_end_meets_is_answered_whole, an_answer_of_all_readings, a_pause_holds_no_session_up,
            accepts_that_fail_are_over_soon, more_desks_than_a_few, another_address, an_address_of_version_six,
-           what_is_told_of_connections, cards_of_ones_own]
+           what_is_told_of_connections, cards_of_ones_own, a_scan_that_is_read_and_fails,
+           a_position_is_read_once_it_has_settled]

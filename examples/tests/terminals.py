@@ -1,25 +1,23 @@
 """What a person types at a terminal is answered line by line: by `run`, and by the client before `serve`."""
 import contextlib
-import errno
 import fcntl
 import os
 import pathlib
 import pty
 import select
 import signal
-import socket
 import subprocess
-import sys
-import tempfile
 import termios
 import time
 
 import swm
-from served import IDENTITY, PATIENCE, Failure, Served, same
+from client import instrument, receive_text
+from served import IDENTITY, PATIENCE, Failure, Served, same, send
 
 HERE = pathlib.Path(__file__).resolve().parent.parent
 A_WHILE = 0.5  # seconds, in which a line that was typed is surely sent
-END, INTERRUPT = "\x04", "\x03"  # Ctrl-D, Ctrl-C
+END, INTERRUPT, RUBOUT, EARLIER = "\x04", "\x03", "\x7f", "\x10"  # Ctrl-D, Ctrl-C, Backspace, Ctrl-P
+PROMPT = "> "  # of the client
 
 
 def in_the_foreground():
@@ -64,12 +62,20 @@ def at_a_terminal(words, **options):
     return contextlib.closing(Terminal(words, **options))
 
 
-def answers_each_line(terminal):
+@contextlib.contextmanager
+def at_the_client(served):
+    """The client's terminal, once it has shown its prompt."""
+    with at_a_terminal([HERE / "swm.py", str(served.port)]) as terminal:
+        terminal.shows(PROMPT)
+        yield terminal
+
+
+def answers_each_line(terminal, prompt=""):
     """Each answer comes before the next line is typed."""
     terminal.types("*IDN?\n")
-    terminal.shows(f"{IDENTITY}\r\n")
+    terminal.shows(f"{IDENTITY}\r\n{prompt}")
     terminal.types("ROUT:CLOS (@2!9,1!3);CLOS:STAT?\n")
-    terminal.shows("(@1!3,2!9)\r\n")
+    terminal.shows(f"(@1!3,2!9)\r\n{prompt}")
     terminal.types(END)
     same("status", terminal.process.wait(PATIENCE), 0)
 
@@ -80,81 +86,102 @@ def run_answers_at_a_terminal(program):
 
 
 def the_client_answers_at_a_terminal(program):
-    with Served(program) as served, at_a_terminal([HERE / "swm.py", str(served.port)]) as terminal:
-        answers_each_line(terminal)
+    with Served(program) as served, at_the_client(served) as terminal:
+        answers_each_line(terminal, PROMPT)
 
 
 def a_command_that_waits_is_given_up(program):
     """Ctrl-C while `*OPC?` waits for the end of a scan gives it up, and the session goes on."""
-    with Served(program) as served, at_a_terminal([HERE / "swm.py", str(served.port)]) as terminal:
+    with Served(program) as served, at_the_client(served) as terminal:
         terminal.types("ROUT:SCAN (@3!4);:TRIG:SOUR BUS;:INIT;:STAT:OPER:COND?\n")
         terminal.shows("\r\n32\r\n")
         terminal.types("*OPC?\n")
         time.sleep(A_WHILE)
         terminal.types(INTERRUPT)
-        terminal.shows("given up\r\n")
+        terminal.shows(f"given up\r\n{PROMPT}")
         terminal.types("ABOR;*OPC?\n")
-        terminal.shows("\r\n1\r\n")
+        terminal.shows(f"\r\n1\r\n{PROMPT}")
         terminal.types(END)
         same("status", terminal.process.wait(PATIENCE), 0)
 
 
-@contextlib.contextmanager
-def stand_in(program):
-    """A command in the place of `rt`, which runs the built program at once."""
-    with tempfile.TemporaryDirectory() as folder:
-        path = pathlib.Path(folder) / "rt"
-        path.write_text(f'#!/bin/sh\nwhile [ "$1" != -- ]; do shift; done\nshift\nexec "{program}" "$@"\n')
-        path.chmod(0o755)
-        yield {**os.environ, "RT": str(path)}
+def the_client_tells_errors_at_once(program):
+    """Behind the answer, each with the line; what it tells has left the queue."""
+    with Served(program) as served, at_the_client(served) as terminal:
+        for line, told in [
+            ("IDN?", ['-113,"Undefined header": IDN?']),
+            ("ROUT:CLOS (@1!1:1!5)", ['-221,"Settings conflict": ROUT:CLOS (@1!1:1!5)']),
+            ("*OPC?;*ESE 256;*SRE 256", ["1"] + ['-222,"Data out of range": *OPC?;*ESE 256;*SRE 256'] * 2),
+            ("*OPC?;:FOO;:SYST:ERR?", ["1", '-113,"Undefined header": *OPC?;:FOO;:SYST:ERR?']),
+            ("*ESE 256;:SYST:ERR?", ['-222,"Data out of range"']),
+            ("SYST:ERR?", ['0,"No error"']),
+        ]:
+            terminal.types(f"{line}\n")
+            terminal.shows("\r\n".join([line, *told, PROMPT]))
 
 
-def make_try_answers_at_a_terminal(program):
-    """`make try`, with the built program in the place of the unproved one."""
-    with stand_in(program) as environment:
-        with at_a_terminal(["make", "-C", HERE.parent, "try"], env=environment) as terminal:
-            terminal.shows("about a minute\r\n")
-            terminal.shows("Ctrl-D ends\r\n")
-            answers_each_line(terminal)
+def the_client_leaves_the_errors_of_others(program):
+    """Who only looks takes none from the queue; an error of its own comes behind those of others."""
+    with Served(program) as served, at_the_client(served) as terminal, served.join() as other:
+        other.write("FOO")
+        same("errors", other.query("SYST:ERR:COUN?"), "1")
+        terminal.types("*IDN?\n")
+        terminal.shows(f"{IDENTITY}\r\n{PROMPT}")
+        same("errors", other.query("SYST:ERR:COUN?"), "1")
+        terminal.types("ROUT:CLOS (@1601)\n")
+        terminal.shows('-113,"Undefined header": queued before\r\n-241,"Hardware missing": ROUT:CLOS (@1601)\r\n')
 
 
-def make_try_answers_a_pipe(program):
-    with stand_in(program) as environment:
-        done = subprocess.run(["make", "-s", "-C", HERE.parent, "try"], input="*IDN?\nFOO\nSYST:ERR?\n", text=True,
-                              capture_output=True, timeout=PATIENCE, env=environment)
-        same("output", done.stdout, f'{IDENTITY}\n-113,"Undefined header"\n')
-        same("status", done.returncode, 0)
+def a_line_is_edited_and_found_again(program):
+    with Served(program) as served, at_the_client(served) as terminal:
+        terminal.types(f"*IDX{RUBOUT}N?\n")
+        terminal.shows(f"\r\n{IDENTITY}\r\n{PROMPT}")
+        terminal.types(f"{EARLIER}\n")
+        terminal.shows(f"*IDN?\r\n{IDENTITY}\r\n{PROMPT}")
+        terminal.types(f"*RST{INTERRUPT}")
+        terminal.shows(f"\r\n{PROMPT}")
+        terminal.types("*OPC?\n")
+        terminal.shows(f"*OPC?\r\n1\r\n{PROMPT}")
+        terminal.types("  exit \n")
+        same("status", terminal.process.wait(PATIENCE), 0)
 
 
-def make_try_tells_of_a_build_that_fails(_):
-    done = subprocess.run([sys.executable, HERE / "try"], stdin=subprocess.DEVNULL, text=True, capture_output=True,
-                          timeout=PATIENCE, env={**os.environ, "RT": "false"})
-    same("status", done.returncode, 1)
+def typed_into_the_client(port, text):
+    """What the client says on both outputs to what comes by a pipe."""
+    done = subprocess.run([HERE / "swm.py", str(port)], input=text, capture_output=True, timeout=PATIENCE)
+    same("status", done.returncode, 0)
+    return done.stdout, done.stderr
 
 
-def make_try_serve_tells_when_it_listens(program):
-    """`make try-serve`: from that line on it serves, and however it ends, what it started ends too."""
-    for number, status in [(signal.SIGINT, 0), (signal.SIGTERM, 143), (signal.SIGHUP, 129)]:
-        with stand_in(program) as environment, socket.create_server(("127.0.0.1", 0)) as free:
-            port = free.getsockname()[1]
-            words = [sys.executable, HERE / "try", str(port)]
-            taken = subprocess.run(words, stderr=subprocess.PIPE, text=True, timeout=PATIENCE, env=environment)
-            same("a port that is taken", (taken.returncode, taken.stderr), (1, f"port {port} is taken\n"))
-            free.close()
-            with subprocess.Popen(words, stderr=subprocess.PIPE, text=True, env=environment,
-                                  preexec_fn=in_the_foreground) as door:
-                same("first", door.stderr.readline(), "building the program, unproved: about a minute\n")
-                same("second", door.stderr.readline(), f"listening on 127.0.0.1:{port}, until Ctrl-C\n")
-                with swm.Session(port) as mainframe:
-                    same("identity", mainframe.query("*IDN?"), IDENTITY)
-                door.send_signal(number)
-                same("status", door.wait(PATIENCE), status)
-        refused = socket.socket().connect_ex(("127.0.0.1", port))
-        same("a connection after it", refused, errno.ECONNREFUSED)
+def a_pipe_has_no_prompt(program):
+    """Each line as it is, bytes that are no text too; `exit` ends."""
+    with Served(program) as served:
+        same("said", typed_into_the_client(served.port, b"*IDN?\nIDN?\n\n\xff\nexit\n*IDN?\n"),
+             (f"{IDENTITY}\n".encode(), b'-113,"Undefined header": IDN?\n-101,"Invalid character": \\udcff\n'))
+        same("said", typed_into_the_client(served.port, b"*OPC?"), (b"1\n", b""))
+
+
+def help_lists_what_the_mainframe_tells(_):
+    listed = "#232*IDN?/qonly/\n:ABORt/nquery/\n"
+    for told, shown in [
+        ([("COUN", "0"), ("HELP", listed), ("COUN", "0")], (b"*IDN?/qonly/\n:ABORt/nquery/\n", b"")),
+        ([("COUN", "0"), ("HELP", None), ("COUN", "1"), ("ALL", '-113,"Undefined header"')],
+         (b"", b'-113,"Undefined header": :SYST:HELP:HEAD?\n'
+               b"this mainframe does not list its commands; docs/COMMANDS.md does\n")),
+    ]:
+        def script(commands, _, told=told):
+            for word, answer in told:
+                text, identifier = receive_text(commands)
+                same(text, word in text, True)
+                if answer is not None:
+                    send(commands, swm.Kind.DataEnd, 0, identifier, f"{answer}\n".encode())
+
+        with instrument(script) as port:
+            same("said", typed_into_the_client(port, b"help\n"), shown)
 
 
 CHECKS = [
     run_answers_at_a_terminal, the_client_answers_at_a_terminal, a_command_that_waits_is_given_up,
-    make_try_answers_at_a_terminal, make_try_answers_a_pipe, make_try_tells_of_a_build_that_fails,
-    make_try_serve_tells_when_it_listens,
+    the_client_tells_errors_at_once, the_client_leaves_the_errors_of_others, a_line_is_edited_and_found_again,
+    a_pipe_has_no_prompt, help_lists_what_the_mainframe_tells,
 ]

@@ -14,7 +14,7 @@ use Rattle.sw_session.specs.ServeWrite.{WritesPart}
 use Rattle.sw_serve.specs.SlotCards.{PlacedCard, IsSetUp, IsDeskForOne}
 use Rattle.mainframe.specs.Run.{RunState, begins_over, Line, Run, Runs, AnsweredFrom, PartFrom, CutFrom, EndsFrom}
 use Rattle.mainframe.specs.declared.fault.RunFault.{RunFault}
-use Rattle.mainframe.specs.declared.fault.RunFault.TheVariants.{Input, Output, Memory, Listen}
+use Rattle.mainframe.specs.declared.fault.RunFault.TheVariants.{Input, Output, Memory, Listen, Descriptors}
 use Rattle.sw_base.specs.Limits.{most_kept}
 use Rattle.mainframe.specs.Kept.{CutsLine, ShowsLine, LosesFront}
 use Rattle.mainframe.specs.Turns.{Gathers, Stand, Streams, TakesTurns, IsOfReading}
@@ -161,6 +161,7 @@ ends-cut sid start Input r0 r c0 c read h = h
 ends-cut sid start Memory r0 r c0 c read h = h
 ends-cut sid start Output r0 r c0 c read h = absurd read
 ends-cut sid start Listen r0 r c0 c read h = absurd read
+ends-cut sid start Descriptors r0 r c0 c read h = absurd read
 
 -- a line that was read, and after which work never ends
 stops_cons : (x : ℕ) (t : List ℕ) → x ≢ 10 → StopsAt t 10 → StopsAt (x ∷ t) 10

@@ -6,7 +6,7 @@ use Rattle.sw_core.specs.declared.ask.Sid.{Sid}
 use Rattle.sw_session.specs.CoreDesk.{DeskSeen}
 use Rattle.sw_session.specs.ServeWrite.{WritesPart}
 use Rattle.mainframe.specs.declared.fault.RunFault.{RunFault}
-use Rattle.mainframe.specs.declared.fault.RunFault.TheVariants.{Input, Output, Memory, Listen}
+use Rattle.mainframe.specs.declared.fault.RunFault.TheVariants.{Input, Output, Memory, Listen, Descriptors}
 use Rattle.sw_base.specs.Limits.{most_kept}
 use Rattle.mainframe.specs.Kept.{CutsLine}
 use Rattle.mainframe.specs.Run.{RunState, Line, AnsweredFrom, EndsFrom}
@@ -154,6 +154,7 @@ stops-so sid start Output r0 r r' c0 contents old new bytes desk p h k w =
     progress-part sid start r0 r r' c0 (contents old) (contents new) bytes p h k w
 stops-so sid start Memory r0 r r' c0 contents old new bytes desk p h k w = absurd w
 stops-so sid start Listen r0 r r' c0 contents old new bytes desk p h k w = absurd w
+stops-so sid start Descriptors r0 r r' c0 contents old new bytes desk p h k w = absurd w
 
 in-vain : {W : Type 0} (contents : W → Option (List ℕ)) (fault : RunFault) (old new : W) (bytes : List ℕ) (desk : DeskSeen)
     → StopsWith contents fault old bytes new desk → fault ≡ Input → IsInVain desk
@@ -161,6 +162,7 @@ in-vain contents Input old new bytes desk (w, vain) is = vain
 in-vain contents Output old new bytes desk w is = absurd (cc (is))
 in-vain contents Memory old new bytes desk w is = absurd w
 in-vain contents Listen old new bytes desk w is = absurd w
+in-vain contents Descriptors old new bytes desk w is = absurd w
 
 -- the lines at hand are answered up to a fault, behind others
 pub stops-behind : {S W : Type 0} {known : Streams S W} {sid talker : Sid} {a b : Stand S W} {fault : RunFault} {source : S} {writer : W} {desk : DeskSeen}

@@ -9,7 +9,7 @@ use Rattle.sw_session.specs.CoreDesk.{DeskSeen, CorePasses, WaitsOut, desk_over}
 use Rattle.sw_session.specs.Talk.{state, Talked}
 use Rattle.sw_session.specs.Talk.{TalkState as StateOver}
 use Rattle.mainframe.specs.declared.fault.RunFault.{RunFault}
-use Rattle.mainframe.specs.declared.fault.RunFault.TheVariants.{Input, Output, Memory, Listen}
+use Rattle.mainframe.specs.declared.fault.RunFault.TheVariants.{Input, Output, Memory, Listen, Descriptors}
 use Rattle.sw_serve.specs.SlotCards.{PlacedCard, IsSetUp}
 use Rattle.mainframe.specs.Lines.{lines_of}
 use Rattle.sw_session.specs.ServeWrite.{WritesPart}
@@ -70,6 +70,7 @@ EndsFrom sid start Input input left old new = CutFrom sid start input left old n
 EndsFrom sid start Memory input left old new = CutFrom sid start input left old new
 EndsFrom sid start Output input left old new = PartFrom sid start input left old new
 EndsFrom sid start Listen input left old new = ⊥
+EndsFrom sid start Descriptors input left old new = ⊥
 
 -- The whole input is answered by a mainframe of these cards.
 pub record Answered (cards : List PlacedCard) (input : List ℕ) (old new : Option (List ℕ)) : Type 0 where

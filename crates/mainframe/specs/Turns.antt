@@ -6,7 +6,7 @@ use Rattle.sw_core.specs.declared.ask.Sid.{Sid}
 use Rattle.sw_session.specs.CoreDesk.{DeskSeen, WaitsOut}
 use Rattle.sw_session.specs.ServeWrite.{WritesPart}
 use Rattle.mainframe.specs.declared.fault.RunFault.{RunFault}
-use Rattle.mainframe.specs.declared.fault.RunFault.TheVariants.{Input, Output, Memory, Listen}
+use Rattle.mainframe.specs.declared.fault.RunFault.TheVariants.{Input, Output, Memory, Listen, Descriptors}
 use Rattle.mainframe.specs.Run.{RunState, Line}
 
 -- a read failed, or there was no memory for what was read
@@ -15,6 +15,7 @@ IsOfReading Input = Unit {0}
 IsOfReading Memory = Unit {0}
 IsOfReading Output = ⊥
 IsOfReading Listen = ⊥
+IsOfReading Descriptors = ⊥
 
 -- how many bytes of answers are kept at most before they are written
 abbrev pub most_unwritten : ℕ
@@ -141,6 +142,7 @@ StopsWith contents Input old bytes new desk = Appends (contents old) (contents n
 StopsWith contents Output old bytes new desk = WritesPart (contents old) (contents new) bytes
 StopsWith contents Memory old bytes new desk = ⊥
 StopsWith contents Listen old bytes new desk = ⊥
+StopsWith contents Descriptors old bytes new desk = ⊥
 
 pub record StopsAtHand {S W : Type 0} (known : Streams S W) (sid : Sid)
     (a : Stand S W) (fault : RunFault) (source : S) (writer : W) (desk : DeskSeen) : Type 0 where

@@ -2,7 +2,7 @@
 use Rattle.std.specs.Prelude.{◌≡◌, ℕ, Bool, true, List, ◌++◌, Option, Result, Ok, OnOk}
 use Rattle.std.specs.Io.KnownBytes.{Consumes, IsAtEnd}
 use Rattle.mainframe.specs.declared.fault.RunFault.{RunFault}
-use Rattle.mainframe.specs.declared.fault.RunFault.TheVariants.{Input, Output, Memory, Listen}
+use Rattle.mainframe.specs.declared.fault.RunFault.TheVariants.{Input, Output, Memory, Listen, Descriptors}
 
 -- A piece of it is read, and at Ok kept behind what was read before. It is said whether the reader is at its end then.
 pub record TakesPiece (old new : Option (List ℕ)) (kept kept' : List ℕ) (result : Result Bool RunFault) : Type 0 where
@@ -27,3 +27,4 @@ StandsAt Input old new = LosesPart old new
 StandsAt Memory old new = LosesPart old new
 StandsAt Output old new = (bytes : List ℕ) × GivesWhole old new bytes
 StandsAt Listen old new = ⊥
+StandsAt Descriptors old new = ⊥

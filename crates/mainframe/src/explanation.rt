@@ -1,6 +1,7 @@
 //! Why a listing is refused, in plain words: the line on standard error. Nothing is promised of it but that it comes
 //! from the first step that the verifier refuses for that cause.
 
+use crate::misread::{misread_slot, misread_step};
 use std::alloc::{AllocError, Global};
 use sw_base::{Chan, POINTS};
 use sw_channel::Position;
@@ -17,22 +18,29 @@ pub fn explain_fault(alloc: Global, text: &[u8], error: ListError) -> Option<Str
             "a listing begins with `scan` and its version, as `scan 1`, and a line feed",
         ListFault::BadStep if line == 2 =>
             "the second line is `meter`, a space, a slot and a line feed",
-        ListFault::BadStep => return by_version(alloc, text, line, NO_STEP),
-        ListFault::BadNumber => return by_version(alloc, text, line, NO_NUMBER),
+        ListFault::BadStep | ListFault::BadNumber => return misread(alloc, text, error),
         ListFault::TooLong => "a listing has at most 8192 steps",
         ListFault::NoMemory => "memory ran out",
     };
     format!(in alloc; "line {line}: {cause}").ok()
 }
 
-const NO_STEP: &str = "its line feed is missing, or no step is written so";
-
-const NO_NUMBER: &str = "a number is missing, malformed or out of its range";
-
-/// A fault of this line that another version of listings may not have.
-fn by_version(alloc: Global, text: &[u8], line: u32, cause: &str) -> Option<String> {
-    let number = listing_version(text)?.number;
-    format!(in alloc; "line {line}: {cause} in version {number}").ok()
+/// What is wrong with this line, by what stands there.
+fn misread(alloc: Global, text: &[u8], error: ListError) -> Option<String> {
+    let line = error.line;
+    let version = listing_version(text)?;
+    let before = usize::try_from(line).ok()?.checked_sub(1)?;
+    let mut lines = text.split(|byte| *byte == b'\n');
+    let found = lines.nth(before)?;
+    if lines.next().is_none() {
+        return format!(in alloc; "line {line}: its line feed is missing").ok();
+    }
+    let cause = if line == 2 {
+        misread_slot(alloc, version, found).ok()?
+    } else {
+        misread_step(alloc, version, found, error.kind).ok()?
+    };
+    format!(in alloc; "line {line}: {cause}").ok()
 }
 
 /// Whether a carriage return stands before the line feed of this line.

@@ -18,6 +18,9 @@ pub enum RunFault {
     /// There was no memory for the words of the command line, the cage or a line.
     #[error("mainframe: out of memory")]
     Memory,
+    /// Standard input, output or error isn't open, so that a connection would take its number.
+    #[error("mainframe: standard input, output or error is closed")]
+    Descriptors,
     /// The port can't be listened on.
     #[error("mainframe: cannot listen")]
     Listen,

@@ -12,11 +12,13 @@
 
 mod cards;
 mod command_line;
+mod descriptors;
 mod error_log;
 mod explanation;
 mod fault;
 mod laws;
 mod listing;
+mod misread;
 mod reading;
 mod run;
 mod serving;
@@ -27,6 +29,7 @@ mod writing;
 
 use clap::error::ErrorKind;
 use command_line::{Order, Serving, Unrun, parse_words, unrun_status};
+use descriptors::are_open;
 use error_log::ErrorLog;
 use fault::RunFault;
 use listing::check_listing;
@@ -106,6 +109,9 @@ fn serve_at<
         + 'static,
     I: Read + AsRawFd + Drop,
 >(rt: W, alloc: Global, serving: Serving, input: Option<I>) -> ExitCode {
+    if !are_open() {
+        return stopped(&rt, RunFault::Descriptors);
+    }
     let at = serving.bound_at();
     let listener = match TcpListener::bind(&rt, at) {
         Ok(listener) => listener,

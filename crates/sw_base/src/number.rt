@@ -127,9 +127,20 @@ impl<'a> Nrf<'a> {
         }
     }
 
+    /// The nearest whole number of billionths, a half rounded away from zero, where an `i64` has it; else
+    /// DataOutOfRange.
+    pub fn billionths(&self) -> Result<i64, ScpiError>
+        ensures { result ≡ in_range i64.MIN i64.MAX (rounded self.now 9) }
+    {
+        match self.size(9) {
+            Some(size) => in_range(with_sign(self.negative, size), i64::MIN, i64::MAX),
+            None => Err(ScpiError::DataOutOfRange),
+        }
+    }
+
     /// The number times 10^tens without its sign, rounded, unless it is 2^64 or more.
     fn size(&self, tens: u8) -> Option<u64>
-        requires { tens ≤ 6 }
+        requires { tens ≤ 9 }
         ensures some { IfSome result (λ n. n ≡ size_of self.now tens) }
         ensures none { IfNone result (2 ^ 64 ≤ size_of self.now tens) }
     {

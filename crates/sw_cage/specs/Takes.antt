@@ -1,6 +1,6 @@
 -- Which happening a running scan takes: the ARM-TRIGger model's wait takes the trigger of its source, and its layer's
 -- SIGNal always (SCPI-1999, chapter 24); that pauses and readings end by a ticket is our own.
-use Rattle.std.specs.Prelude.{◌≡◌, ℕ, Option, Some, None}
+use Rattle.std.specs.Prelude.{◌≡◌, ℕ, ◌+◌, drop, Option, Some, None}
 use Rattle.sw_base.specs.declared.terms.Source.TheVariants as source
 use Rattle.sw_base.specs.declared.terms.LayerName.{LayerName}
 use Rattle.sw_trigger.specs.declared.layer.Awaited.{Awaited}
@@ -8,7 +8,7 @@ use Rattle.sw_trigger.specs.declared.layer.Awaited.TheVariants.{Wait, Period, Pa
 use Rattle.sw_verify.specs.Course.{CourseSeen, source_at}
 use Rattle.sw_trigger.specs.Counts.{is_reading}
 use Rattle.sw_cage.specs.Cage.{ScanSeen, CageSeen, ticket_of}
-use Rattle.sw_cage.specs.Advance.{awaits}
+use Rattle.sw_cage.specs.Advance.{awaits, first_awaited}
 use Rattle.sw_cage.specs.declared.job.Ticket.{Ticket}
 use Rattle.sw_cage.specs.declared.taken.Happening.{Happening}
 use Rattle.sw_cage.specs.declared.taken.Happening.TheVariants.{Bus, External, Signal, Elapsed}
@@ -76,3 +76,13 @@ AwaitsOther (Some at) = (what : Awaited) × ((awaits at ≡ Some what) × (is_re
 abbrev pub awaited_now : Option ScanSeen → Option Awaited
 awaited_now None = None
 awaited_now (Some at) = awaits at
+
+-- what is awaited after something
+abbrev pub behind : Option Awaited → Option Awaited → Option Awaited
+behind None next = None
+behind (Some what) next = next
+
+-- what it awaits right after that, where no relay is moved before
+abbrev pub awaited_after : Option ScanSeen → Option Awaited
+awaited_after None = None
+awaited_after (Some at) = behind (awaits at) (first_awaited (drop (at.index + 1) at.course.items))

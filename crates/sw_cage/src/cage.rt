@@ -19,9 +19,10 @@ ghost use Rattle.sw_cage.specs.Channels.{closed_list};
 ghost use Rattle.sw_cage.specs.Work.{IsTold};
 ghost use Rattle.sw_cage.specs.Good.{IsGood};
 ghost use Rattle.sw_cage.specs.TakenSeen.{taken_seen, tells_fault, SaysIgnored};
-ghost use Rattle.sw_cage.specs.Takes.{Takes, TakesReturn, AwaitsOther, awaited_now};
+ghost use Rattle.sw_cage.specs.Takes.{Takes, TakesReturn, AwaitsOther};
 ghost use Rattle.sw_cage.specs.Outcome.{Advances, AdvancesPast, Counts, begun, with_back, readings_with};
 
+mod awaiting;
 mod layout;
 
 use crate::job::{Finished, Ticket};
@@ -36,7 +37,6 @@ use std::marker::Model;
 use std::mem::replace;
 use sw_base::{Chan, Reading};
 use sw_card::{Card, CardFault, Meter, Relay};
-use sw_trigger::Awaited;
 use sw_verify::Course;
 
 /// Slots, numbered from 1, that hold relay and meter cards.
@@ -319,16 +319,6 @@ impl<R: Relay, M: Meter> Cage<R, M> {
         ensures { result ≡ is_some self.now.seen.scan }
     {
         self.scan.is_some()
-    }
-
-    /// What the scan that runs awaits; nothing, where none runs.
-    pub fn awaited(&self) -> Option<Awaited>
-        ensures { result ≡ awaited_now self.now.seen.scan }
-    {
-        match &self.scan {
-            Some(scan) => scan.awaited(),
-            None => None,
-        }
     }
 
     /// Begins the scan of a course that is sound for the cards and what is closed: its number is one more, and the

@@ -46,7 +46,7 @@ passes-round : (s : SettingsSeen) (k n : ℕ) → passes s (k + length s.list) n
 passes-round s k zero = refl
 passes-round s k (suc n) =
     let e : suc (k + length s.list) ≡ suc k + length s.list = omega arith in
-    ap (λ (c : Position). (map Awaits (head_of Trigger s.trigger) ++ visit c) ++ passes s (suc (k + length s.list)) n) (position_at-round s.list k)
+    ap (λ (c : Position). (map Awaits (head_of Trigger s.trigger) ++ visit s.settle_us c) ++ passes s (suc (k + length s.list)) n) (position_at-round s.list k)
     ∙ ap (λ (i : ℕ). pass_of s k ++ passes s i n) e
     ∙ ap (λ (l : List Item). pass_of s k ++ l) (passes-round s (suc k) n)
 

@@ -11,11 +11,12 @@ use Rattle.sw_base.specs.declared.terms.LayerName.TheVariants.{Trigger}
 use Rattle.sw_base.specs.declared.terms.Source.{Source}
 use Rattle.sw_base.specs.declared.terms.Source.TheVariants.{Immediate, Bus, External, Hold, Timer}
 use Rattle.sw_trigger.specs.declared.layer.Layer.{Layer}
-use Rattle.sw_trigger.specs.declared.layer.Awaited.TheVariants.{Pause}
+use Rattle.sw_trigger.specs.declared.layer.Awaited.TheVariants.{Pause, Read}
 use Rattle.sw_trigger.specs.Settings.{SettingsSeen, IsLayer, IsInRange, NamedLayer, named, arms_of}
 use Rattle.sw_base.specs.Layers.{arm_layers, number_of}
 use Rattle.sw_base.specs.declared.terms.ArmLayer.{ArmLayer}
-use Rattle.sw_trigger.specs.Agenda.{Item, Awaits, head_of, wait_by, wait_of, pause_of, position_at, visit, pass_of, passes}
+use Rattle.sw_channel.specs.Positions.{Position}
+use Rattle.sw_trigger.specs.Agenda.{Item, Awaits, Open, head_of, wait_by, wait_of, pause_of, position_at, visit, pass_of, passes}
 use Rattle.sw_code.specs.declared.code.Step.{Step}
 use Rattle.sw_code.specs.declared.code.Step.TheVariants as step
 use Rattle.sw_base.specs.Limits.{most_arm_layers, most_counters, most_entries, most_arm_count, most_trigger_count}
@@ -91,30 +92,39 @@ length-head name l h =
     let b = (fits-pause l.delay_us h.delay).1 in
     omega (arith, a, b, length-map (head_of name l) Awaits, length-append (wait_of name l) (pause_of l.delay_us))
 
-module _ (s : SettingsSeen) (h : IsLayer most_trigger_count s.trigger) where
+fits-visit : (settle : ℕ) (p : Position) → settle ≤ 3600000000 → Fits (visit settle p) × (length (visit settle p) ≤ 4)
+fits-visit settle p h =
+    let a = fits-pause settle h in (
+      (tt, fits-append (map Awaits (pause_of settle)) (Awaits Read ∷ Open p ∷ []) a.0 (tt, (tt, tt))),
+      omega (arith, a.1, length-map (pause_of settle) Awaits, length-append (map Awaits (pause_of settle)) (Awaits Read ∷ Open p ∷ [])),
+    )
+
+module _ (s : SettingsSeen) (h : IsLayer most_trigger_count s.trigger) (settled : s.settle_us ≤ 3600000000) where
   fits-passes : (k n : ℕ) → Fits (passes s k n)
   fits-passes k zero = tt
   fits-passes k (suc n) =
       fits-append (pass_of s k) (passes s (suc k) n)
-      (fits-append (map Awaits (head_of Trigger s.trigger)) (visit (position_at s.list k)) (fits-head Trigger s.trigger h) (tt, (tt, (tt, tt))))
+      (fits-append (map Awaits (head_of Trigger s.trigger)) (visit s.settle_us (position_at s.list k)) (fits-head Trigger s.trigger h)
+      (fits-visit s.settle_us (position_at s.list k) settled).0)
       (fits-passes (suc k) n)
 
-  length-passes : (k n : ℕ) → length (passes s k n) ≤ n * 5
+  length-passes : (k n : ℕ) → length (passes s k n) ≤ n * 6
   length-passes k zero = omega arith
   length-passes k (suc n) =
       omega (
         arith,
         length-append (pass_of s k) (passes s (suc k) n),
-        length-append (map Awaits (head_of Trigger s.trigger)) (visit (position_at s.list k)),
+        length-append (map Awaits (head_of Trigger s.trigger)) (visit s.settle_us (position_at s.list k)),
         length-head Trigger s.trigger h,
+        (fits-visit s.settle_us (position_at s.list k) settled).1,
         length-passes (suc k) n,
-        suc-mul n 5,
+        suc-mul n 6,
       )
 
-  fit-some : (n : ℕ) → IsFit (line (passes s 0 n) Nil) × (size (line (passes s 0 n) Nil) ≤ n * 5)
+  fit-some : (n : ℕ) → IsFit (line (passes s 0 n) Nil) × (size (line (passes s 0 n) Nil) ≤ n * 6)
   fit-some n = (fit-line (passes s 0 n) Nil (fits-passes 0 n) tt, omega (arith, size-line (passes s 0 n) Nil, length-passes 0 n))
 
-  fit-rounds : 0 < length s.list → length s.list ≤ most_entries → s.trigger.count ≤ most_trigger_count → IsFit (passes_tree s) × (size (passes_tree s) ≤ 5122)
+  fit-rounds : 0 < length s.list → length s.list ≤ most_entries → s.trigger.count ≤ most_trigger_count → IsFit (passes_tree s) × (size (passes_tree s) ≤ 6140)
   fit-rounds some most count =
       at (s.trigger.count / length s.list) (div-le_self s.trigger.count (length s.list))
     where
@@ -125,7 +135,7 @@ module _ (s : SettingsSeen) (h : IsLayer most_trigger_count s.trigger) where
           → IsFit (cond (eqb q 0) (line (passes s 0 left) Nil) (Times most_arm_layers q (line (passes s 0 (length s.list)) Nil) (line (passes s 0 left) Nil)))
           × (size
           (cond (eqb q 0) (line (passes s 0 left) Nil)
-          (Times most_arm_layers q (line (passes s 0 (length s.list)) Nil) (line (passes s 0 left) Nil))) ≤ 5122)
+          (Times most_arm_layers q (line (passes s 0 (length s.list)) Nil) (line (passes s 0 left) Nil))) ≤ 6140)
       at zero below =
           let r = fit-some left in
           let small : left < length s.list = mod_below s.trigger.count (length s.list) some in
@@ -137,13 +147,13 @@ module _ (s : SettingsSeen) (h : IsLayer most_trigger_count s.trigger) where
           let small : left < length s.list = mod_below s.trigger.count (length s.list) some in
           let body = line (passes s 0 (length s.list)) Nil in
           let rest = line (passes s 0 left) Nil in
-          let few : 2 + size body + size rest ≤ 5122 = omega (arith, r.1, a.1, small) in
+          let few : 2 + size body + size rest ≤ 6140 = omega (arith, r.1, a.1, small) in
           let count : suc q ≤ 100000 = omega arith in
           let last : most_arm_layers < most_counters = omega arith in
           let one : 1 ≤ suc q = omega arith in
           subst
           (λ (b : Bool). IsFit (cond b rest (Times most_arm_layers (suc q) body rest))
-          × (size (cond b rest (Times most_arm_layers (suc q) body rest)) ≤ 5122)) (sym e)
+          × (size (cond b rest (Times most_arm_layers (suc q) body rest)) ≤ 6140)) (sym e)
           (((last, one, count), a.0, r.0), few)
 
 abbrev AreLayers : List NamedLayer → Type 0
@@ -167,10 +177,10 @@ fit-arms k (arm ∷ arms) inside n a few f h =
       omega (arith, size-line head (arms_tree (k + 1) arms inside), r.1, length-head arm.0 arm.1 a.0),
     )
 
-fit-tree : (s : SettingsSeen) → 0 < length s.list → IsInRange s → IsFit (tree_of s) × (size (tree_of s) ≤ most_arm_layers * 4 + 5122)
+fit-tree : (s : SettingsSeen) → 0 < length s.list → IsInRange s → IsFit (tree_of s) × (size (tree_of s) ≤ most_arm_layers * 4 + 6140)
 fit-tree s some i =
-    let inner = fit-rounds s i.trigger some i.list i.trigger.count.1 in
-    fit-arms 0 (arms_of s) (passes_tree s) 5122 (arms_fit s i arm_layers) (omega arith) inner.0 inner.1
+    let inner = fit-rounds s i.trigger i.settle some i.list i.trigger.count.1 in
+    fit-arms 0 (arms_of s) (passes_tree s) 6140 (arms_fit s i arm_layers) (omega arith) inner.0 inner.1
 
 pub compiled_fits : (s : SettingsSeen) → 0 < length s.list → IsInRange s → IsCode (compiled s)
 compiled_fits s some i =

@@ -187,7 +187,7 @@ item-some (x ∷ xs) rest h = tt
 passes_some : (s : SettingsSeen) (n : ℕ) → 0 < n → 0 < length (passes s 0 n)
 passes_some s zero h = absurd (omega arith)
 passes_some s (suc n) h =
-    omega (arith, length-append (pass_of s 0) (passes s 1 n), length-append (map Awaits (head_of Trigger s.trigger)) (visit (position_at s.list 0)))
+    omega (arith, length-append (pass_of s 0) (passes s 1 n), length-append (map Awaits (head_of Trigger s.trigger)) (visit s.settle_us (position_at s.list 0)))
 
 passes_within : (s : SettingsSeen) → 0 < length s.list → 0 < s.trigger.count → HasItem (passes_tree s) × IsWithin 1 (passes_tree s)
 passes_within s some count = at (s.trigger.count / length s.list) (s.trigger.count % length s.list) (div-add-mod' s.trigger.count (length s.list)) where

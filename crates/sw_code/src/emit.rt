@@ -2,7 +2,7 @@
 
 ghost use Rattle.std.specs.Prelude.{◌≡◌, ◌+◌, ◌*◌, ◌<◌, ◌≤◌, [], ◌∷◌, ◌++◌, length, map, IfOk, IfErr, OnOk, vec_len, vec_capacity};
 ghost use Rattle.sw_base.specs.declared.error.ScpiError.TheVariants.{OutOfMemory};
-ghost use Rattle.sw_trigger.specs.Agenda.{agenda, head_of, pass_of, passes, Awaits};
+ghost use Rattle.sw_trigger.specs.Agenda.{agenda, head_of, pause_of, pass_of, passes, Awaits};
 ghost use Rattle.sw_trigger.specs.Settings.{layer_of, named};
 ghost use Rattle.sw_trigger.specs.Settings as settled;
 ghost use Rattle.sw_code.specs.declared.code.Step.TheVariants as step;
@@ -141,6 +141,7 @@ fn put_pass(steps: &mut Vec<Step>, settings: &Settings, k: u32) -> Result<(), Al
         settings.layer(LayerName::Trigger),
     )?;
     push(steps, Step::Close(position))?;
+    put_pause(steps, settings.settle_us())?;
     push(steps, Step::Read)?;
     push(steps, Step::Open(position))?;
     Ok(())
@@ -157,8 +158,17 @@ fn put_head(steps: &mut Vec<Step>, name: LayerName, layer: Layer) -> Result<(), 
         Source::Timer => push(steps, Step::Timer(name, layer.timer_us))?,
         Source::Bus | Source::External | Source::Hold => push(steps, Step::Wait(name))?,
     }
-    if layer.delay_us != 0 {
-        push(steps, Step::Pause(layer.delay_us))?;
+    put_pause(steps, layer.delay_us)
+}
+
+/// Adds a pause of so many microseconds, if it is any.
+#[inline(always)]
+fn put_pause(steps: &mut Vec<Step>, micros: u64) -> Result<(), AllocError>
+    ensures pause { OnOk result (steps.new.items ≡ steps.old.items ++ steps_of (map Awaits (pause_of micros))) }
+    ensures short { OnOk result (length steps.new.items ≤ length steps.old.items + 1) }
+{
+    if micros != 0 {
+        push(steps, Step::Pause(micros))?;
     }
     Ok(())
 }

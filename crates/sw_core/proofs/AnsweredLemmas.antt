@@ -33,7 +33,7 @@ readings_answered (r ∷ rs) p f a q h = absurd h
 pub alone_answered : (e : Effect) (p : Panel) (f : Bool) (a : SessionAnswer) (q : Panel) → StepAlone e p f a q → IsAnswered a
 alone_answered e p f (Done text) q h = tt
 alone_answered e p f (Refused x) q h = tt
-alone_answered TellsReadings p f a q h = readings_answered p.cage.readings p f a q h
+alone_answered (TellsReadings readings) p f a q h = readings_answered (readings p) p f a q h
 alone_answered (TellsText text) p f a q h = absurd h
 alone_answered (ReadsOut text after) p f a q h = absurd h
 alone_answered (SetsStatus after) p f a q h = absurd h

@@ -184,7 +184,7 @@ told_open p chans a q h = absurd h
 
 told_alone : (d : Effect) (p : Panel) (a : SessionAnswer) (q : Panel) → StepAlone d p true a q → IsAloneFall p a q
 told_alone (TellsText text) p a q h = absurd (no_text p (text p) p.status a q h)
-told_alone TellsReadings p a q h = absurd (no_readings p.cage.readings p a q h)
+told_alone (TellsReadings readings) p a q h = absurd (no_readings (readings p) p a q h)
 told_alone (ReadsOut text after) p a q h = absurd (no_text p (text p.status) (after p.status) a q h)
 told_alone (SetsStatus after) p a q h = absurd (no_done (record p { status = after p.status }) a q h)
 told_alone (SetsUp Fits error after) p a q h = absurd (no_setting p Fits error (after p.settings) a q h)
@@ -238,7 +238,7 @@ told_action (AfterScan d) p ask a w q h =
 -- ---- scans
 
 no_snapshot : (p : Panel) (a : SessionAnswer) (q : Panel) → StepSnapshot p true a q → ⊥
-no_snapshot p (Answer.Snapshot s) q h = true_is_false h.0
+no_snapshot p (Answer.Snapshot s number) q h = true_is_false h.0
 no_snapshot p (Refused OutOfMemory) q h = true_is_false h.0
 no_snapshot p (Refused e) q h = true_is_false h.0
 no_snapshot p a q h = absurd h

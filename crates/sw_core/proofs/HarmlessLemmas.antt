@@ -120,7 +120,7 @@ conflict e = absurd (cc (e))
 -- what an effect leaves fine, and is refused by no card's failure of its own
 abbrev pub IsHarmless : Panel → Effect → Type 0
 IsHarmless p (TellsText text) = Unit {0}
-IsHarmless p TellsReadings = Unit {0}
+IsHarmless p (TellsReadings readings) = Unit {0}
 IsHarmless p (ReadsOut text after) = IsStatus p.status → IsStatus (after p.status)
 IsHarmless p (SetsStatus after) = IsStatus p.status → IsStatus (after p.status)
 IsHarmless p (SetsUp Fits error after) = (Fits → IsInRange p.settings → IsInRange (after p.settings)) × (error ≢ HardwareError) × (is_running p ≡ false)
@@ -153,12 +153,14 @@ ranged (Setting.Time Time.Delay layer micros) s fits r =
     range_layer s layer _ r (record { count = (layer_range s layer r).count; delay = fits; timer = (layer_range s layer r).timer })
 ranged (Setting.Time Time.Timer layer micros) s fits r =
     range_layer s layer _ r (record { count = (layer_range s layer r).count; delay = (layer_range s layer r).delay; timer = fits })
+ranged (Setting.Time Time.Settling layer micros) s fits r =
+    record { layers = r.layers; arms = r.arms; trigger = r.trigger; list = r.list; meter = r.meter; points = r.points; settle = fits }
 ranged (Setting.Scan positions) s fits r =
-    record { layers = r.layers; arms = r.arms; trigger = r.trigger; list = fits; meter = r.meter; points = r.points }
+    record { layers = r.layers; arms = r.arms; trigger = r.trigger; list = fits; meter = r.meter; points = r.points; settle = r.settle }
 ranged (Setting.ScanMeter slot) s fits r =
-    record { layers = r.layers; arms = r.arms; trigger = r.trigger; list = r.list; meter = fits; points = r.points }
+    record { layers = r.layers; arms = r.arms; trigger = r.trigger; list = r.list; meter = fits; points = r.points; settle = r.settle }
 ranged (Setting.Points n) s fits r =
-    record { layers = r.layers; arms = r.arms; trigger = r.trigger; list = r.list; meter = r.meter; points = fits }
+    record { layers = r.layers; arms = r.arms; trigger = r.trigger; list = r.list; meter = r.meter; points = fits; settle = r.settle }
 
 no_fault : (setting : Setting) → misfit setting ≢ HardwareError
 no_fault (Setting.Scan positions) = too_much
@@ -201,6 +203,7 @@ harmless p available (Command.Plain Plain.OpenAll) =
     }
 harmless p available (Command.Plain Plain.Preset) = λ u. (status-kept p.status u).reset
 harmless p available (Command.Plain Plain.Fetch) = tt
+harmless p available (Command.Plain Plain.Read) = tt
 harmless p available (Command.Query query) = tt
 harmless p available (Command.LayerQuery query layer) = tt
 harmless p available (Command.GroupQuery query group) = tt
@@ -210,9 +213,11 @@ harmless p available (Command.Continuous true) = conflict
 harmless p available (Command.Continuous false) = λ k. k
 harmless p available (Command.Channels Channels.Close chans) = λ idle. idle
 harmless p available (Command.Channels Channels.CloseQuery chans) = tt
+harmless p available (Command.Channels Channels.CloseCheck chans) = tt
 harmless p available (Command.Channels Channels.Open chans) = λ idle. idle
 harmless p available (Command.Channels Channels.OpenQuery chans) = tt
 harmless p available (Command.Set setting) = λ idle. (λ fits r. ranged setting p.settings fits r, no_fault setting, idle)
 harmless p available (Command.SetStatus setting) = λ u. bits_fine setting p.status u
 harmless p available (Command.Macros ask) = tt
 harmless p available (Command.Macro ask) = tt
+harmless p available (Command.ScanReadings number count) = tt

@@ -120,7 +120,7 @@ keeps_command p available command n = (refl, refl)
 
 keep_alone : (d : Effect) (p : Panel) (f : Bool) (a : SessionAnswer) (q : Panel) → KeepsEffect p d → StepAlone d p f a q → IsKeeping p q
 keep_alone (TellsText text) p f a q k h = keep_text p (text p) p.status f a q h
-keep_alone TellsReadings p f a q k h = keep_readings p.cage.readings p f a q h
+keep_alone (TellsReadings readings) p f a q k h = keep_readings (readings p) p f a q h
 keep_alone (ReadsOut text after) p f a q k h = keep_text p (text p.status) (after p.status) f a q h
 keep_alone (SetsStatus after) p f a q k h = keep_done p (record p { status = after p.status }) f a q (refl, refl) h
 keep_alone (SetsUp Fits error after) p f a q k h = keep_setting p Fits error (after p.settings) f a q h
@@ -190,7 +190,7 @@ reads_unit p sid command available f a w q h = (keep_unit p sid command availabl
 -- ---- scans and seats
 
 keep_snapshot : (p : Panel) (f : Bool) (a : SessionAnswer) (q : Panel) → StepSnapshot p f a q → IsKeeping p q
-keep_snapshot p f (answers.Snapshot s) q h = keep_is p q h.3
+keep_snapshot p f (answers.Snapshot s number) q h = keep_is p q h.3
 keep_snapshot p f (Refused OutOfMemory) q h = keep_is p q h.2
 keep_snapshot p f (Refused e) q h = keep_is p q h.2
 keep_snapshot p f a q h = absurd h

@@ -27,5 +27,8 @@ mod SeatedLemmas
 mod CountedLemmas
 mod MissedLemmas
 mod ScanRunsLemmas
+mod ScanNumberLemmas
+mod ReadsLemmas
+mod ClosingToldLemmas
 mod EveryRunLemmas
 mod GoingOnLemmas

@@ -130,7 +130,7 @@ untaken_command (BetweenScans d) a e = untaken d a e
 untaken_command (AfterScan d) a e = untaken d a e
 
 still_snapshot : {off : Bool} (p : Panel) (f : Bool) (a : SessionAnswer) (q : Panel) → StepSnapshot p f a q → IsStill off p q
-still_snapshot p f (answers.Snapshot s) q h = still_as p q h.3
+still_snapshot p f (answers.Snapshot s number) q h = still_as p q h.3
 still_snapshot p f (Refused OutOfMemory) q h = still_as p q h.2
 still_snapshot p f (Refused e) q h = still_as p q h.2
 still_snapshot p f a q h = absurd h
@@ -331,7 +331,7 @@ session_scan (Refused e) p = refl
 session_scan (Joined sid) p = refl
 session_scan Full p = refl
 session_scan (Done text) p = refl
-session_scan (answers.Snapshot s) p = refl
+session_scan (answers.Snapshot s number) p = refl
 session_scan answers.Missed p = refl
 session_scan (answers.Max n) p = refl
 session_scan (answers.Lock code) p = refl

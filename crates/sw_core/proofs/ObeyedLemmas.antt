@@ -185,7 +185,7 @@ readings_quiet (r ∷ rs) p f e q h = text_quiet p (join_with_byte 44 (map readi
 
 alone_quiet : (d : Effect) (p : Panel) (f : Bool) (e : ScpiError) (q : Panel) → StepAlone d p f (Refused e) q → IsQuiet p e q
 alone_quiet (TellsText text) p f e q h n = text_quiet p (text p) p.status f e q h
-alone_quiet TellsReadings p f e q h n = readings_quiet p.cage.readings p f e q h
+alone_quiet (TellsReadings readings) p f e q h n = readings_quiet (readings p) p f e q h
 alone_quiet (ReadsOut text after) p f e q h n = text_quiet p (text p.status) (after p.status) f e q h
 alone_quiet (SetsStatus after) p f e q h n = absurd h
 alone_quiet (SetsUp Fits error after) p f e q h n = h.3
@@ -315,7 +315,7 @@ undefined_down p f q h = absurd (let x : HardwareError ≡ UndefinedHeader = h.1
 
 alone_down : (d : Effect) (p : Panel) (f : Bool) (q : Panel) → IsHarmless p d → StepAlone d p f (Refused HardwareError) q → IsDown p f q
 alone_down (TellsText text) p f q n h = absurd h
-alone_down TellsReadings p f q n h = readings_down p.cage.readings p f q h
+alone_down (TellsReadings readings) p f q n h = readings_down (readings p) p f q h
 alone_down (ReadsOut text after) p f q n h = absurd h
 alone_down (SetsStatus after) p f q n h = absurd h
 alone_down (SetsUp Fits error after) p f q n h = absurd (n.1 (sym h.2))

@@ -109,7 +109,7 @@ readings_once (r ∷ rs) p f f' a a' q q' n m h k = text_once p (join_with_byte 
 pub alone_once : (e : Effect) (p : Panel) (f f' : Bool) (a a' : SessionAnswer) (q q' : Panel)
     → IsWhole (SaysSession a None) → IsWhole (SaysSession a' None) → StepAlone e p f a q → StepAlone e p f' a' q' → IsOnce a a' q q'
 alone_once (TellsText text) p f f' a a' q q' n m h k = text_once p (text p) p.status f f' a a' q q' n m h k
-alone_once TellsReadings p f f' a a' q q' n m h k = readings_once p.cage.readings p f f' a a' q q' n m h k
+alone_once (TellsReadings readings) p f f' a a' q q' n m h k = readings_once (readings p) p f f' a a' q q' n m h k
 alone_once (ReadsOut text after) p f f' a a' q q' n m h k = text_once p (text p.status) (after p.status) f f' a a' q q' n m h k
 alone_once (SetsStatus after) p f f' a a' q q' n m h k = done_once (record p { status = after p.status }) f f' a a' q q' h k
 alone_once (SetsUp Fits error after) p f f' a a' q q' n m h k = setting_once p Fits error (after p.settings) f f' a a' q q' h k

@@ -1,5 +1,5 @@
 -- So has what is offered to a scan, held, or begins one.
-use Rattle.std.proofs.Common.{◌≡◌, ◌≢◌, Bool, true, false, Option, None, refl, sym, ◌∙◌, ap, subst, arith, inl, inr, ◌⊎◌}
+use Rattle.std.proofs.Common.{◌≡◌, ◌≢◌, ℕ, Bool, true, false, Option, None, refl, sym, ◌∙◌, ap, subst, arith, inl, inr, ◌⊎◌}
 use Rattle.std.specs.Prelude.{MatchBool}
 use Rattle.sw_base.specs.declared.error.ScpiError.{ScpiError}
 use Rattle.sw_base.specs.declared.error.ScpiError.TheVariants.{InitIgnored, SystemError, SettingsConflict, HardwareError, OutOfMemory}
@@ -95,13 +95,13 @@ may_apart p e may h = absurd h
 
 -- what comes of an ask for a snapshot: it is given, or refused
 abbrev pub IsGiven : Panel → SessionAnswer → Panel → Type 0
-IsGiven p a q = MayScan p × (a ≡ answers.Snapshot (snapshot_of p)) × (q ≡ p)
+IsGiven p a q = MayScan p × (a ≡ answers.Snapshot (snapshot_of p) p.cage.number) × (q ≡ p)
 
 abbrev pub IsDenied : Panel → SessionAnswer → Panel → Type 0
 IsDenied p a q = (e : ScpiError) × RefusesScan p e × (a ≡ Refused e) × (q ≡ p)
 
 pub snapshot_as : (p : Panel) (f : Bool) (a : SessionAnswer) (q : Panel) → IsWhole (SaysSession a None) → StepSnapshot p f a q → IsGiven p a q ⊎ IsDenied p a q
-snapshot_as p f (answers.Snapshot s) q n h = inl (h.1, ap answers.Snapshot h.2, h.3)
+snapshot_as p f (answers.Snapshot s number) q n h = inl (h.1, ap (λ (s : Snapshot). answers.Snapshot s number) h.2 ∙ ap (λ (n : ℕ). answers.Snapshot (snapshot_of p) n) h.4, h.3)
 snapshot_as p f (Refused OutOfMemory) q n h = absurd (n.0 refl)
 snapshot_as p f (Refused e) q n h = inr (e, h.1, refl, h.2)
 snapshot_as p f a q n h = absurd h

@@ -57,13 +57,12 @@ use Rattle.sw_card.specs.declared.board.CardFault.{CardFault}
 use Rattle.sw_base.specs.declared.terms.StatusGroup.TheVariants.{Operation}
 use Rattle.sw_verify.specs.Course.{CourseSeen, course_of}
 use Rattle.sw_cage.specs.Advance.{next_place}
-use Rattle.sw_cage.specs.Takes.{awaited_now}
 use Rattle.sw_cage.specs.TakenSeen.{tells_fault}
 use Rattle.sw_cage.specs.Outcome.{Advances, AdvancesPastFrom, Counts, with_reading, begun}
 use Rattle.sw_status.proofs.Limits.{status-kept, status-start}
 use Rattle.sw_core.specs.Registers.{card_fault_reported, card_fault_cleared}
 use Rattle.sw_core.specs.Sessions.{with_seat, fresh_seat}
-use Rattle.sw_core.specs.Event.{ended, erred, completed, with_operation, awaited_bits, next_number}
+use Rattle.sw_core.specs.Event.{ended, erred, completed, with_operation, scan_bits, next_number}
 use Rattle.sw_trigger.proofs.Ranges.{reset_range}
 use Rattle.sw_core.proofs.HarmlessLemmas.{IsFine, KeepsTo, GoesBy, by_none, fine_is, none_of, told_group, reported_status, cleared_status, fallen_all}
 use Rattle.sw_core.proofs.HarmlessLemmas.{dropped, IsHarmless, IsHarmlessAction, harmless}
@@ -159,7 +158,7 @@ readings_fine (r ∷ rs) p f a q k h = text_fine p (join_with_byte 44 (map readi
 
 alone_fine : (d : Effect) (p : Panel) (f : Bool) (a : SessionAnswer) (q : Panel) → IsFine p → IsHarmless p d → StepAlone d p f a q → IsFine q
 alone_fine (TellsText text) p f a q k n h = text_fine p (text p) p.status f a q k k.status h
-alone_fine TellsReadings p f a q k n h = readings_fine p.cage.readings p f a q k h
+alone_fine (TellsReadings readings) p f a q k n h = readings_fine (readings p) p f a q k h
 alone_fine (ReadsOut text after) p f a q k n h = text_fine p (text p.status) (after p.status) f a q k (n k.status) h
 alone_fine (SetsStatus after) p f a q k n h =
     done_fine (record p { status = after p.status }) f a q (record { cage = k.cage; range = k.range; settings = k.settings; status = n k.status }) h
@@ -292,7 +291,7 @@ action_fine (BetweenScans d) p ask f a w q k n h = barred_fine (is_running p) d 
 action_fine (AfterScan d) p ask f a w q k n h = waiting_fine (is_running p) d p ask f a w q k n h
 
 snapshot_fine : (p : Panel) (f : Bool) (a : SessionAnswer) (q : Panel) → IsFine p → StepSnapshot p f a q → IsFine q
-snapshot_fine p f (answers.Snapshot s) q k h = fine_is p q h.3 k
+snapshot_fine p f (answers.Snapshot s number) q k h = fine_is p q h.3 k
 snapshot_fine p f (Refused OutOfMemory) q k h = fine_is p q h.2 k
 snapshot_fine p f (Refused e) q k h = fine_is p q h.2 k
 snapshot_fine p f a q k h = absurd h
@@ -447,7 +446,7 @@ pub ended_fine : (p : Panel) → IsFine p → IsFine (ended p)
 ended_fine p k =
     let done : StatusSeen = completed p.status (p.opc_waits && not (is_running p)) in
     let u : IsStatus done = (status-kept p.status k.status).event_status _ in
-    let o : IsStatus (with_operation done (awaited_bits (awaited_now p.cage.scan))) =
+    let o : IsStatus (with_operation done (scan_bits p.cage.scan)) =
     (status-kept done u).group Operation _ ((told_group done Operation u).conditioned _) in
     record { cage = k.cage; range = k.range; settings = k.settings; status = (status-kept _ o).ended }
 
@@ -463,7 +462,7 @@ session_ended (Refused e) p k = ended_fine (erred p e) (erred_fine p e k)
 session_ended (Joined sid) p k = ended_fine p k
 session_ended Full p k = ended_fine p k
 session_ended (Done text) p k = ended_fine p k
-session_ended (answers.Snapshot s) p k = ended_fine p k
+session_ended (answers.Snapshot s number) p k = ended_fine p k
 session_ended answers.Missed p k = ended_fine p k
 session_ended (answers.Max n) p k = ended_fine p k
 session_ended (answers.Lock code) p k = ended_fine p k

@@ -7,7 +7,7 @@ use Rattle.sw_trigger.specs.declared.layer.Awaited.{Awaited}
 use Rattle.sw_trigger.specs.declared.layer.Awaited.TheVariants.{Wait, Period, Pause, Read}
 use Rattle.sw_verify.specs.declared.snapshot.Snapshot.{Snapshot}
 use Rattle.sw_status.specs.Registers.{low_15}
-use Rattle.sw_cage.specs.Takes.{awaited_now}
+use Rattle.sw_cage.specs.Takes.{awaited_now, awaited_after}
 use Rattle.sw_cage.specs.TakenSeen.{TakenSeen, SaysIgnored, SaysWaits, SaysPause, SaysJob, SaysEnded, SaysFault}
 use Rattle.sw_core.specs.declared.ask.Sid.{Sid}
 use Rattle.sw_core.specs.declared.ask.SessionAsk.{SessionAsk}
@@ -17,7 +17,7 @@ use Rattle.sw_core.specs.declared.ask.SessionAnswer.TheVariants as answers
 use Rattle.sw_core.specs.declared.ask.SessionAnswer.TheVariants.{Joined, Full, Stranger, Broken, Done, Refused, Hold, Worn}
 use Rattle.sw_core.specs.Panel.{Panel, is_running}
 use Rattle.sw_core.specs.Action.{Effect, Action, AtOnce, BetweenScans, AfterScan, action_of}
-use Rattle.sw_core.specs.Event.{awaited_bits, ended, erred, concluded, session_concluded, last_number}
+use Rattle.sw_core.specs.Event.{pause_bits, awaited_bits, scan_bits, ended, erred, concluded, session_concluded, last_number}
 use Rattle.sw_core.specs.Seen.{WorkSeen, AskSeen, AskSession, AskExternal, AskElapsed, AskFinished, AnswerSeen, SaysSession}
 use Rattle.sw_core.specs.Seen.{SaysInstalled}
 use Rattle.sw_core.specs.Seen.{SaysNotInstalled, SaysEjected, SaysNotEjected, SaysTaken, SaysMissed, SaysFailed, SaysBack, SaysWorn}
@@ -28,20 +28,27 @@ use Rattle.sw_core.specs.Step.{Admission, Dropped, ShutOut, Admitted, admission}
 use Rattle.sw_core.proofs.AnsweredLemmas.{IsAnswered, effect_answered, barred_answered, happening_answered}
 
 abbrev pub IsTelling : Panel → Type 0
-IsTelling p = p.status.operation.condition ≡ awaited_bits (awaited_now p.cage.scan)
+IsTelling p = p.status.operation.condition ≡ scan_bits p.cage.scan
 
-low_bits : (o : Option Awaited) → low_15 (awaited_bits o) ≡ awaited_bits o
-low_bits (Some Read) = refl
-low_bits (Some (Wait Trigger)) = refl
-low_bits (Some (Wait (Arm arm))) = refl
-low_bits (Some (Period Trigger micros)) = refl
-low_bits (Some (Period (Arm arm) micros)) = refl
-low_bits (Some (Pause micros)) = refl
-low_bits None = refl
+low_pause_bits : (after : Option Awaited) → low_15 (pause_bits after) ≡ pause_bits after
+low_pause_bits (Some Read) = refl
+low_pause_bits (Some (Wait name)) = refl
+low_pause_bits (Some (Period name micros)) = refl
+low_pause_bits (Some (Pause micros)) = refl
+low_pause_bits None = refl
+
+low_bits : (o after : Option Awaited) → low_15 (awaited_bits o after) ≡ awaited_bits o after
+low_bits (Some Read) after = refl
+low_bits (Some (Wait Trigger)) after = refl
+low_bits (Some (Wait (Arm arm))) after = refl
+low_bits (Some (Period Trigger micros)) after = refl
+low_bits (Some (Period (Arm arm) micros)) after = refl
+low_bits (Some (Pause micros)) after = low_pause_bits after
+low_bits None after = refl
 
 -- an event that ends tells it anew
 ended_telling : (p : Panel) → IsTelling (ended p)
-ended_telling p = low_bits (awaited_now p.cage.scan)
+ended_telling p = low_bits (awaited_now p.cage.scan) (awaited_after p.cage.scan)
 
 telling_as : (p q : Panel) → q ≡ p → IsTelling p → IsTelling q
 telling_as p q e k = subst (λ (x : Panel). IsTelling x) (sym e) k
@@ -158,7 +165,7 @@ session_settled (Refused e) w p ask f q k h = ended_telling (erred q e)
 session_settled (Joined sid) w p ask f q k h = ended_telling q
 session_settled Full w p ask f q k h = ended_telling q
 session_settled (Done text) w p ask f q k h = ended_telling q
-session_settled (answers.Snapshot s) w p ask f q k h = ended_telling q
+session_settled (answers.Snapshot s number) w p ask f q k h = ended_telling q
 session_settled answers.Missed w p ask f q k h = ended_telling q
 session_settled (answers.Max n) w p ask f q k h = ended_telling q
 session_settled (answers.Lock code) w p ask f q k h = ended_telling q

@@ -55,7 +55,7 @@ still_idle p q i e r = inr (inl (i, e ∙ i, r))
 -- a happening that is refused is no card's failure
 abbrev pub IsStillEffect : Bool → Panel → Effect → Type 0
 IsStillEffect off p (TellsText text) = Unit {0}
-IsStillEffect off p TellsReadings = Unit {0}
+IsStillEffect off p (TellsReadings readings) = Unit {0}
 IsStillEffect off p (ReadsOut text after) = Unit {0}
 IsStillEffect off p (SetsStatus after) = Unit {0}
 IsStillEffect off p (SetsUp Fits error after) = Unit {0}
@@ -91,6 +91,7 @@ still_command sid p available (Command.Plain Plain.Initiate) = tt
 still_command sid p available (Command.Plain Plain.OpenAll) = λ i. inr (inl (none_of p i, none_of p i, refl))
 still_command sid p available (Command.Plain Plain.Preset) = tt
 still_command sid p available (Command.Plain Plain.Fetch) = tt
+still_command sid p available (Command.Plain Plain.Read) = tt
 still_command sid p available (Command.Query query) = tt
 still_command sid p available (Command.LayerQuery query layer) = tt
 still_command sid p available (Command.GroupQuery query group) = tt
@@ -101,12 +102,14 @@ still_command sid p available (Command.Continuous true) = tt
 still_command sid p available (Command.Continuous false) = inl refl
 still_command sid p available (Command.Channels Channels.Close chans) = λ i. none_of p i
 still_command sid p available (Command.Channels Channels.CloseQuery chans) = tt
+still_command sid p available (Command.Channels Channels.CloseCheck chans) = tt
 still_command sid p available (Command.Channels Channels.Open chans) = λ i. none_of p i
 still_command sid p available (Command.Channels Channels.OpenQuery chans) = tt
 still_command sid p available (Command.Set setting) = λ i. tt
 still_command sid p available (Command.SetStatus setting) = tt
 still_command sid p available (Command.Macros ask) = tt
 still_command sid p available (Command.Macro ask) = tt
+still_command sid p available (Command.ScanReadings number count) = tt
 
 still_close : {off : Bool} (p : Panel) (chans : List Channel) (f : Bool) (a : SessionAnswer) (q : Panel) → p.cage.scan ≡ None → StepClose p chans f a q
     → IsStill off p q
@@ -163,7 +166,7 @@ pub still_alone : (ask : SessionAsk) (d : Effect) (p : Panel) (f : Bool) (a : Se
     → IsStillEffect (breaks_off (AskSession ask) (SaysSession (Done None) None)) p d
     → StepAlone d p f a q → IsStill (breaks_off (AskSession ask) (SaysSession a None)) p q
 still_alone ask (TellsText text) p f a q n h = still_text p (text p) p.status f a q h
-still_alone ask TellsReadings p f a q n h = still_readings p.cage.readings p f a q h
+still_alone ask (TellsReadings readings) p f a q n h = still_readings (readings p) p f a q h
 still_alone ask (ReadsOut text after) p f a q n h = still_text p (text p.status) (after p.status) f a q h
 still_alone ask (SetsStatus after) p f a q n h = still_done p (record p { status = after p.status }) f a q (λ e. inl refl) h
 still_alone ask (SetsUp Fits error after) p f a q n h = still_setting p Fits error (after p.settings) f a q h

@@ -1,8 +1,9 @@
 -- What each command comes to: one row for each family of commands, and one for each query in what it tells.
-use Rattle.std.specs.Prelude.{ℕ, ◌≤◌, Bool, true, false, List, [], length, decimal}
+use Rattle.std.specs.Prelude.{ℕ, ◌≤◌, ◌==◌, ◌&&◌, Bool, true, false, List, [], length, decimal, if◌then◌else◌}
 use Rattle.sw_base.specs.Layout.{Channel}
 use Rattle.sw_base.specs.Limits.{most_slots, most_entries, most_points, longest_delay}
 use Rattle.sw_base.specs.Reading.{fixed}
+use Rattle.sw_base.specs.declared.reading.Reading.{Reading}
 use Rattle.sw_base.specs.declared.error.ScpiError.{ScpiError}
 use Rattle.sw_base.specs.declared.error.ScpiError.TheVariants.{TriggerIgnored, ArmIgnored}
 use Rattle.sw_base.specs.declared.error.ScpiError.TheVariants.{SettingsConflict, DataOutOfRange, TooMuchData}
@@ -10,6 +11,7 @@ use Rattle.sw_base.specs.declared.terms.LayerName.{LayerName}
 use Rattle.sw_base.specs.declared.terms.LayerName.TheVariants as layer_name
 use Rattle.sw_base.specs.declared.terms.Source.{Source}
 use Rattle.sw_channel.specs.Printing.{printed, printed_positions}
+use Rattle.sw_lex.specs.Help.{headers_text}
 use Rattle.sw_lex.specs.declared.command.Command.{Command}
 use Rattle.sw_lex.specs.declared.command.Plain.{Plain}
 use Rattle.sw_lex.specs.declared.command.PlainQuery.{PlainQuery}
@@ -34,13 +36,14 @@ use Rattle.sw_cage.specs.declared.taken.Happening.TheVariants.{Bus, Signal}
 use Rattle.sw_core.specs.Answers.{identity_text, version, oldest_entry, all_entries, source_word}
 use Rattle.sw_core.specs.Panel.{Panel, with_cards}
 use Rattle.sw_core.specs.Registers.{card_fault_cleared}
+use Rattle.sw_core.specs.Checking.{check_text}
 
 -- what a command does when it is carried out
 pub data Effect : Type 1 where
   -- it tells a text
   TellsText : (text : Panel → List ℕ) → Effect
-  -- it tells the readings of the last scan
-  TellsReadings : Effect
+  -- it tells readings
+  TellsReadings : (readings : Panel → List Reading) → Effect
   -- it tells a text of the status, and leaves this status
   ReadsOut : (text : StatusSeen → List ℕ) → (after : StatusSeen → StatusSeen) → Effect
   -- it sets the status
@@ -59,8 +62,8 @@ pub data Effect : Type 1 where
   Triggers : (happening : Happening) → (error : ScpiError) → Effect
   -- it is refused by this error
   RefusesWith : (error : ScpiError) → Effect
-  -- A session's own: macros, and the beginning of a scan. The mainframe is asked neither as a command, and refuses it
-  -- as an undefined header.
+  -- A session's own: macros, and the beginning of a scan, for READ? with its readings. The mainframe is asked neither
+  -- as a command, and refuses it as an undefined header.
   IsOfMacros : Effect
   Initiates : Effect
 
@@ -95,6 +98,7 @@ with_source layer source s = with_layer s layer (record (layer_of s layer) { sou
 abbrev pub with_time : Time → LayerName → ℕ → SettingsSeen → SettingsSeen
 with_time Time.Delay layer micros s = with_layer s layer (record (layer_of s layer) { delay_us = micros })
 with_time Time.Timer layer micros s = with_layer s layer (record (layer_of s layer) { timer_us = micros })
+with_time Time.Settling layer micros s = record s { settle_us = micros }
 
 -- ---- queries
 
@@ -107,13 +111,20 @@ query_text available PlainQuery.StatusByte p = decimal (byte_of p.status availab
 query_text available PlainQuery.SelfTest p = decimal 0
 query_text available PlainQuery.InitiateContinuous p = decimal 0
 query_text available PlainQuery.CloseState p = printed (closed_list p.cage.cards)
+query_text available PlainQuery.Settling p = fixed 6 p.settings.settle_us
 query_text available PlainQuery.Scan p = printed_positions p.settings.list
 query_text available PlainQuery.ScanMeter p = decimal p.settings.meter
 query_text available PlainQuery.ErrorCount p = decimal (length p.status.errors)
+query_text available PlainQuery.Headers p = headers_text
 query_text available PlainQuery.Version p = version
 query_text available PlainQuery.Points p = decimal p.settings.points
 query_text available PlainQuery.ActualPoints p = decimal (length p.cage.readings)
 query_text available PlainQuery.Bound p = decimal (bound_of p.settings)
+
+-- the readings of the scan with this number, where it made so many, and no scan began since
+abbrev pub readings_of_scan : ℕ → ℕ → Panel → List Reading
+readings_of_scan number count p =
+    if p.cage.number == number && length p.cage.readings == count then p.cage.readings else []
 
 -- what a query of a layer tells
 abbrev pub layer_text : LayerQuery → Layer → List ℕ
@@ -159,6 +170,7 @@ Fits (Setting.Count layer n) = (1 ≤ n) × (n ≤ most_of layer)
 Fits (Setting.Source layer source) = Unit {0}
 Fits (Setting.Time Time.Delay layer micros) = micros ≤ longest_delay
 Fits (Setting.Time Time.Timer layer micros) = (1 ≤ micros) × (micros ≤ longest_delay)
+Fits (Setting.Time Time.Settling layer micros) = micros ≤ longest_delay
 Fits (Setting.Scan positions) = length positions ≤ most_entries
 Fits (Setting.ScanMeter slot) = (1 ≤ slot) × (slot ≤ most_slots)
 Fits (Setting.Points n) = (1 ≤ n) × (n ≤ most_points)
@@ -194,6 +206,7 @@ is_trigger command = false
 abbrev pub awaits_end : Command → Bool
 awaits_end (Command.Plain Plain.OperationCompleteQuery) = true
 awaits_end (Command.Plain Plain.Wait) = true
+awaits_end (Command.ScanReadings number count) = true
 awaits_end command = false
 
 -- what a command without data comes to
@@ -208,7 +221,8 @@ plain_action Plain.Abort = AtOnce (Changes aborted)
 plain_action Plain.Initiate = AtOnce Initiates
 plain_action Plain.OpenAll = BetweenScans (Changes (λ p. with_cards p (all_open p.cage.cards)))
 plain_action Plain.Preset = AtOnce (SetsStatus preset)
-plain_action Plain.Fetch = AtOnce TellsReadings
+plain_action Plain.Fetch = AtOnce (TellsReadings (λ p. p.cage.readings))
+plain_action Plain.Read = AtOnce Initiates
 
 -- what a command with a channel list comes to
 abbrev pub channels_action : Channels → List Channel → Action
@@ -216,6 +230,7 @@ channels_action Channels.Close chans = BetweenScans (ClosesListed chans)
 channels_action Channels.CloseQuery chans = AtOnce (TellsRelays true chans)
 channels_action Channels.Open chans = BetweenScans (OpensListed chans)
 channels_action Channels.OpenQuery chans = AtOnce (TellsRelays false chans)
+channels_action Channels.CloseCheck chans = AtOnce (TellsText (check_text chans))
 
 -- what a setting of scans comes to
 abbrev pub setting_action : Setting → Action
@@ -243,3 +258,4 @@ action_of available (Command.Set setting) = setting_action setting
 action_of available (Command.SetStatus setting) = AtOnce (SetsStatus (with_bits setting))
 action_of available (Command.Macros ask) = AtOnce IsOfMacros
 action_of available (Command.Macro ask) = AtOnce IsOfMacros
+action_of available (Command.ScanReadings number count) = AfterScan (TellsReadings (readings_of_scan number count))

@@ -9,7 +9,8 @@ use Rattle.sw_trigger.specs.declared.layer.Awaited.{Awaited}
 use Rattle.sw_trigger.specs.declared.layer.Awaited.TheVariants.{Wait, Period, Pause, Read}
 use Rattle.sw_status.specs.Registers.{group_conditioned}
 use Rattle.sw_status.specs.StatusModel.{StatusSeen, pushed, with_bit, with_group, event_ended}
-use Rattle.sw_cage.specs.Takes.{awaited_now}
+use Rattle.sw_cage.specs.Cage.{ScanSeen}
+use Rattle.sw_cage.specs.Takes.{awaited_now, awaited_after}
 use Rattle.sw_core.specs.declared.ask.SessionAnswer.{SessionAnswer}
 use Rattle.sw_core.specs.declared.ask.SessionAnswer.TheVariants.{Joined, Full, Stranger, Broken, Done, Missed, Max}
 use Rattle.sw_core.specs.declared.ask.SessionAnswer.TheVariants.{Lock, Info, Snapshot, Refused, Hold, Worn}
@@ -22,13 +23,23 @@ abbrev pub waiting_bits : LayerName → ℕ
 waiting_bits Trigger = 32
 waiting_bits (Arm arm) = 64
 
--- OPERation's condition: bit 4 at a reading, a layer's bits at its wait, that for its timer's end included
-abbrev pub awaited_bits : Option Awaited → ℕ
-awaited_bits (Some Read) = 16
-awaited_bits (Some (Wait name)) = waiting_bits name
-awaited_bits (Some (Period name micros)) = waiting_bits name
-awaited_bits (Some (Pause micros)) = 0
-awaited_bits None = 0
+-- OPERation's condition at a pause: bit 1 where a reading comes right after it, which it settles for (SCPI-1999, 20.2)
+abbrev pub pause_bits : Option Awaited → ℕ
+pause_bits (Some Read) = 2
+pause_bits after = 0
+
+-- OPERation's condition by what a scan awaits, and right after that: bit 4 at a reading, a layer's bits at its wait,
+-- that for its timer's end included
+abbrev pub awaited_bits : Option Awaited → Option Awaited → ℕ
+awaited_bits (Some Read) after = 16
+awaited_bits (Some (Wait name)) after = waiting_bits name
+awaited_bits (Some (Period name micros)) after = waiting_bits name
+awaited_bits (Some (Pause micros)) after = pause_bits after
+awaited_bits None after = 0
+
+-- OPERation's condition of the scan that runs, if any
+abbrev pub scan_bits : Option ScanSeen → ℕ
+scan_bits scan = awaited_bits (awaited_now scan) (awaited_after scan)
 
 abbrev pub with_operation : StatusSeen → ℕ → StatusSeen
 with_operation s bits = with_group s Operation (group_conditioned s.operation bits)
@@ -50,7 +61,7 @@ next_number n = min last_number (n + 1)
 abbrev pub ended : Panel → Panel
 ended p = record p {
   status = event_ended (with_operation
-      (completed p.status (p.opc_waits && not (is_running p))) (awaited_bits (awaited_now p.cage.scan)));
+      (completed p.status (p.opc_waits && not (is_running p))) (scan_bits p.cage.scan));
   opc_waits = p.opc_waits && is_running p;
   events = next_number p.events;
 }
@@ -74,7 +85,7 @@ session_concluded Missed p = ended p
 session_concluded (Max n) p = ended p
 session_concluded (Lock code) p = ended p
 session_concluded (Info exclusive n) p = ended p
-session_concluded (Snapshot snapshot) p = ended p
+session_concluded (Snapshot snapshot number) p = ended p
 
 abbrev pub concluded : AnswerSeen → Panel → Panel
 concluded (SaysSession answer work) p = session_concluded answer p

@@ -7,10 +7,9 @@ use Rattle.sw_trigger.specs.Settings.{IsInRange}
 use Rattle.sw_verify.specs.Course.{course_of}
 use Rattle.sw_status.specs.StatusModel.{IsStatus}
 use Rattle.sw_cage.specs.Accounts.{Accounts}
-use Rattle.sw_cage.specs.Takes.{awaited_now}
 use Rattle.sw_cage.specs.Good.{IsGood}
 use Rattle.sw_core.specs.Sessions.{AreSeated}
-use Rattle.sw_core.specs.Event.{awaited_bits}
+use Rattle.sw_core.specs.Event.{scan_bits}
 use Rattle.sw_core.specs.Panel.{Panel, opening_at, IsSafe}
 use Rattle.sw_core.specs.Seen.{AskSeen, AnswerSeen}
 use Rattle.sw_core.specs.Step.{Step}
@@ -41,7 +40,7 @@ pub record IsGoodPanel (p : Panel) : Type 0 where
   -- the locks are in order, and whoever holds one is joined
   pub sessions : AreSeated p.sessions
   -- OPERation's condition tells what the scan awaits, nothing where none runs
-  pub condition : p.status.operation.condition ≡ awaited_bits (awaited_now p.cage.scan)
+  pub condition : p.status.operation.condition ≡ scan_bits p.cage.scan
 
 -- A mainframe begins good, and is good after each ask that was good before: so it is whatever went before, unknown to
 -- who is lent it.

@@ -6,10 +6,13 @@ pub mod Seen
 pub mod Panel
 pub mod Registers
 pub mod Event
+pub mod Checking
 pub mod Action
 pub mod Step
 pub mod Good
 pub mod Taken
 pub mod Run
 pub mod Ends
+pub mod Reads
+pub mod ClosingTold
 pub mod Opening

@@ -129,7 +129,7 @@ abbrev pub StepRefused : Panel → ScpiError → Bool → SessionAnswer → Pane
 StepRefused p error f (Refused e) q = (f ≡ false) × (e ≡ error) × (q ≡ p)
 StepRefused p error f answer q = ⊥
 
--- the readings of the last scan, joined by commas; where there are none, the query is refused
+-- readings, joined by commas; where there are none, the query is refused
 abbrev pub StepReadings : List Reading → Panel → Bool → SessionAnswer → Panel → Type 0
 StepReadings [] p f answer q = StepRefused p DataCorruptOrStale f answer q
 StepReadings (r ∷ rs) p f answer q = StepText p (join_with_byte 44 (map reading_text (r ∷ rs))) p.status f answer q
@@ -173,7 +173,7 @@ pub record StepHappens (p : Panel) (happening : Happening) (error : ScpiError) (
 -- a command that is offered to no scan
 abbrev pub StepAlone : Effect → Panel → Bool → SessionAnswer → Panel → Type 0
 StepAlone (TellsText text) p f answer q = StepText p (text p) p.status f answer q
-StepAlone TellsReadings p f answer q = StepReadings p.cage.readings p f answer q
+StepAlone (TellsReadings readings) p f answer q = StepReadings (readings p) p f answer q
 StepAlone (ReadsOut text after) p f answer q = StepText p (text p.status) (after p.status) f answer q
 StepAlone (SetsStatus after) p f answer q = StepDone (record p { status = after p.status }) f answer q
 StepAlone (SetsUp Fits error after) p f answer q = StepSetting p Fits error (after p.settings) f answer q
@@ -224,9 +224,10 @@ pub record MayScan (p : Panel) : Type 0 where
 abbrev pub snapshot_of : Panel → Snapshot
 snapshot_of p = record { settings = p.settings; layout = cage_layout p.cage; closed = closed_list p.cage.cards }
 
--- what a scan would begin from is asked
+-- what a scan would begin from is asked; the number of the last scan comes with it
 abbrev pub StepSnapshot : Panel → Bool → SessionAnswer → Panel → Type 0
-StepSnapshot p f (Answer.Snapshot s) q = (f ≡ false) × MayScan p × (s ≡ snapshot_of p) × (q ≡ p)
+StepSnapshot p f (Answer.Snapshot s number) q =
+    (f ≡ false) × MayScan p × (s ≡ snapshot_of p) × (q ≡ p) × (number ≡ p.cage.number)
 StepSnapshot p f (Refused OutOfMemory) q = (f ≡ false) × MayScan p × (q ≡ p)
 StepSnapshot p f (Refused e) q = (f ≡ false) × RefusesScan p e × (q ≡ p)
 StepSnapshot p f answer q = ⊥

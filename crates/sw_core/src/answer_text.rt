@@ -1,10 +1,12 @@
 //! The text of a query's answer.
 
-ghost use Rattle.std.specs.Prelude.{◌≡◌, decimal};
-ghost use Rattle.sw_base.specs.Reading.{fixed};
+ghost use Rattle.std.specs.Prelude.{◌≡◌, decimal, map};
+ghost use Rattle.std.specs.List.{join_with_byte};
+ghost use Rattle.sw_base.specs.Reading.{fixed, reading_text};
 ghost use Rattle.sw_core.specs.AnswerText.{form_text};
 ghost use Rattle.sw_core.specs.Answers.{yes_or_no, entry_told};
 
+use crate::readings_text::ReadingsText;
 use std::marker::Model;
 use sw_base::{ScpiError, Sequence};
 
@@ -29,6 +31,8 @@ pub enum AnswerForm {
     Fixed(&'static [u8]),
     /// An entry of the error queue, or that it has none.
     Entry(Option<ScpiError>),
+    /// Readings, whose text has commas between them.
+    Readings(ReadingsText),
 }
 
 impl Model for AnswerText {
@@ -95,6 +99,16 @@ impl AnswerText {
     {
         AnswerText {
             form: AnswerForm::Entry(error),
+        }
+    }
+
+    /// Readings, joined by commas.
+    #[inline(always)]
+    pub fn readings(readings: ReadingsText) -> Self
+        ensures { result ≡ join_with_byte 44 (map reading_text readings) }
+    {
+        AnswerText {
+            form: AnswerForm::Readings(readings),
         }
     }
 

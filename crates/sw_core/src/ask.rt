@@ -76,8 +76,8 @@ pub enum SessionAnswer {
     Lock(u8),
     /// Whether the exclusive lock is held, and how many sessions hold a lock.
     Info(bool, u8),
-    /// What a scan would begin from.
-    Snapshot(BoxedSnapshot),
+    /// What a scan would begin from, and the number of the last scan that began.
+    Snapshot(BoxedSnapshot, u64),
     /// It was refused, for this error.
     Refused(ScpiError),
     /// It can't be done yet: it is to be asked again after a wait.

@@ -75,6 +75,7 @@ pub fn awaits_end(command: &Command) -> bool
 {
     match command {
         Command::Plain(Plain::OperationCompleteQuery | Plain::Wait) => true,
+        Command::ScanReadings(_, _) => true,
         _ => false,
     }
 }

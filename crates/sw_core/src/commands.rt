@@ -45,6 +45,7 @@ impl<R: Relay, M: Meter> Core<R, M> {
             Command::Set(setting) => self.set(setting),
             Command::SetStatus(setting) => self.set_status(setting),
             Command::Macros(_) | Command::Macro(_) => undefined(),
+            Command::ScanReadings(number, count) => self.scan_readings(alloc, number, count),
             Command::Signal(_) => unreachable!(),
         }
     }
@@ -65,7 +66,7 @@ impl<R: Relay, M: Meter> Core<R, M> {
             Plain::OperationCompleteQuery => self.number(1),
             Plain::Wait => SessionAnswer::Done(None),
             Plain::Abort => self.abort(),
-            Plain::Initiate => undefined(),
+            Plain::Initiate | Plain::Read => undefined(),
             Plain::OpenAll if self.cage.is_running() => conflict(),
             Plain::OpenAll => self.open_everything(),
             Plain::Preset => self.preset(),
@@ -85,6 +86,7 @@ impl<R: Relay, M: Meter> Core<R, M> {
             Channels::Close | Channels::Open if self.cage.is_running() => conflict(),
             Channels::Close => self.close(chans),
             Channels::CloseQuery => self.flags(alloc, true, chans),
+            Channels::CloseCheck => self.check_closing(alloc, chans),
             Channels::Open => self.open(chans),
             Channels::OpenQuery => self.flags(alloc, false, chans),
         }
@@ -112,6 +114,7 @@ impl<R: Relay, M: Meter> Core<R, M> {
             Setting::Time(Time::Timer, layer, micros) => {
                 taken(self.settings.set_timer(layer, micros))
             }
+            Setting::Time(Time::Settling, _, micros) => taken(self.settings.set_settling(micros)),
             Setting::Scan(positions) => taken(self.settings.set_list(positions.into_vec())),
             Setting::ScanMeter(slot) => taken(self.settings.set_meter(slot)),
             Setting::Points(n) => taken(self.settings.set_points(n)),

@@ -2,7 +2,7 @@
 
 ghost use Rattle.std.specs.Prelude.{◌≡◌};
 ghost use Rattle.sw_core.specs.Seen.{answer_seen};
-ghost use Rattle.sw_core.specs.Event.{concluded, session_concluded, ended, awaited_bits, waiting_bits};
+ghost use Rattle.sw_core.specs.Event.{concluded, session_concluded, ended, scan_bits, pause_bits, waiting_bits};
 
 use crate::ask::{Answer, SessionAnswer};
 use crate::state::Core;
@@ -10,21 +10,22 @@ use sw_base::{LayerName, ScpiError, StatusGroup};
 use sw_card::{Meter, Relay};
 use sw_trigger::Awaited;
 
-/// OPERation's condition: measuring (SCPI-1999, 20.2).
+/// OPERation's condition: settling (SCPI-1999, 20.2).
+const SETTLING: u16 = 1 << 1;
+/// Measuring.
 const MEASURING: u16 = 1 << 4;
 /// Waiting for TRIGger.
 const WAITING_FOR_TRIGGER: u16 = 1 << 5;
 /// Waiting for ARM.
 const WAITING_FOR_ARM: u16 = 1 << 6;
 
-/// What OPERation tells where a scan awaits this.
-fn awaited_bits(awaited: Option<Awaited>) -> u16
-    ensures { result ≡ awaited_bits awaited }
+/// What OPERation tells at a pause after which a scan awaits this.
+fn pause_bits(after: Option<Awaited>) -> u16
+    ensures { result ≡ pause_bits after }
 {
-    match awaited {
-        Some(Awaited::Read) => MEASURING,
-        Some(Awaited::Wait(name) | Awaited::Period(name, _)) => waiting_bits(name),
-        Some(Awaited::Pause(_)) | None => 0,
+    match after {
+        Some(Awaited::Read) => SETTLING,
+        _ => 0,
     }
 }
 
@@ -79,9 +80,21 @@ impl<R: Relay, M: Meter> Core<R, M> {
             self.status.operation_complete();
             self.opc_waits = false;
         }
-        let bits = awaited_bits(self.cage.awaited());
+        let bits = self.scan_bits();
         self.status.set_condition(StatusGroup::Operation, bits);
         self.status.end_event();
         self.events = self.events.saturating_add(1);
+    }
+
+    /// What OPERation tells of the scan that runs, if any.
+    fn scan_bits(&self) -> u16
+        ensures { result ≡ scan_bits self.now.cage.scan }
+    {
+        match self.cage.awaited() {
+            Some(Awaited::Read) => MEASURING,
+            Some(Awaited::Wait(name) | Awaited::Period(name, _)) => waiting_bits(name),
+            Some(Awaited::Pause(_)) => pause_bits(self.cage.awaited_after()),
+            None => 0,
+        }
     }
 }

@@ -4,6 +4,8 @@ ghost use Rattle.sw_core.specs.Good.{StaysGood};
 ghost use Rattle.sw_core.specs.Run.{EveryRunIsGood, RelaysObey, StepIsDetermined};
 ghost use Rattle.sw_core.specs.Ends.{EveryScanEnds};
 ghost use Rattle.sw_core.specs.Opening.{RunsGoOn};
+ghost use Rattle.sw_core.specs.Reads.{ReadTellsItsScan};
+ghost use Rattle.sw_core.specs.ClosingTold.{ClosingIsTold};
 
 /// A mainframe begins good and stays good, whatever went before: no absent channel is closed and no two closed channels
 /// clash, a scan that runs goes by the settings and has done a prefix of its agenda, which is sound, the queue holds 32
@@ -47,4 +49,17 @@ pub fn every_scan_ends()
 /// opening state; so `every_run_is_good` and `every_scan_ends` hold of each run from a state that is handed on so.
 pub fn runs_go_on()
     ensures { RunsGoOn }
+{}
+
+/// In every run, whatever others ask in between: where a snapshot was told, a plan's scan began, and a text is told for
+/// the readings of the scan whose number comes after the snapshot's, as many as that plan makes, no other scan began
+/// from the snapshot on, the scan is over, and the text is all of its readings.
+pub fn read_tells_its_scan()
+    ensures { ReadTellsItsScan }
+{}
+
+/// Of every good mainframe `DIAGnostic:CLOSe:CHECk?` tells `"ok"` exactly where ROUTe:CLOSe of the same channels is
+/// refused by nothing: then it closes them, unless a card fails.
+pub fn closing_is_told()
+    ensures { ClosingIsTold }
 {}

@@ -14,10 +14,12 @@
 mod answer_text;
 mod ask;
 mod asks;
+mod checking;
 mod commands;
 mod event;
 mod laws;
 mod queries;
+mod readings_text;
 mod registers;
 mod relays;
 mod scans;
@@ -28,7 +30,8 @@ mod text;
 pub use answer_text::{AnswerForm, AnswerText};
 pub use ask::{Answer, Ask, SessionAnswer, SessionAsk, Sid, Work};
 pub use laws::{
-    every_run_is_good, every_scan_ends, mainframe_stays_good, relays_obey, runs_go_on,
-    step_is_determined,
+    closing_is_told, every_run_is_good, every_scan_ends, mainframe_stays_good, read_tells_its_scan,
+    relays_obey, runs_go_on, step_is_determined,
 };
+pub use readings_text::ReadingsText;
 pub use state::Core;

@@ -4,18 +4,21 @@ ghost use Rattle.std.specs.Prelude.{◌≡◌, Bool, decimal};
 ghost use Rattle.sw_channel.specs.Printing.{printed_positions};
 ghost use Rattle.sw_trigger.specs.Settings.{layer_of};
 ghost use Rattle.sw_status.specs.StatusModel.{registers_of};
-ghost use Rattle.sw_core.specs.Action.{query_text, layer_text, group_text};
+ghost use Rattle.sw_base.specs.declared.error.ScpiError.TheVariants.{DataCorruptOrStale};
+ghost use Rattle.sw_core.specs.Action.{query_text, layer_text, group_text, readings_of_scan};
+ghost use Rattle.sw_core.specs.declared.ask.SessionAnswer.TheVariants.{Refused};
 ghost use Rattle.sw_core.specs.Step.{StepText, StepReadings};
 
 use crate::answer_text::AnswerText;
 use crate::ask::SessionAnswer;
+use crate::readings_text::ReadingsText;
 use crate::state::Core;
-use crate::text::{all_readings, answered, identity, source_word, version};
+use crate::text::{answered, identity, source_word, version};
 use std::alloc::Global;
 use sw_base::{LayerName, ScpiError, Sequence, StatusGroup};
 use sw_card::{Meter, Relay};
 use sw_channel::print_positions;
-use sw_lex::{GroupQuery, LayerQuery, PlainQuery};
+use sw_lex::{GroupQuery, LayerQuery, PlainQuery, headers_text};
 
 impl<R: Relay, M: Meter> Core<R, M> {
     /// Answers a query; `available` says whether its message has answered before, so that a message is available.
@@ -31,9 +34,11 @@ impl<R: Relay, M: Meter> Core<R, M> {
             PlainQuery::SelfTest => self.number(0),
             PlainQuery::InitiateContinuous => self.number(0),
             PlainQuery::CloseState => self.close_state(alloc),
+            PlainQuery::Settling => answered(AnswerText::seconds(self.settings.settle_us())),
             PlainQuery::Scan => self.scan_query(alloc),
             PlainQuery::ScanMeter => self.number(u64::from(self.settings.meter())),
             PlainQuery::ErrorCount => self.number(self.status.count() as u64),
+            PlainQuery::Headers => answered(AnswerText::fixed(headers_text())),
             PlainQuery::Version => answered(version()),
             PlainQuery::Points => self.number(u64::from(self.settings.points())),
             PlainQuery::ActualPoints => self.number(self.cage.readings().len() as u64),
@@ -92,18 +97,37 @@ impl<R: Relay, M: Meter> Core<R, M> {
         }
     }
 
-    /// The readings of the last scan.
+    /// The readings of the scan with this number, where it made so many, and no scan began since.
+    #[inline(never)]
+    pub(crate) fn scan_readings(&self, alloc: Global, number: u64, count: u64) -> SessionAnswer
+        ensures { StepReadings (readings_of_scan number count self.now) self.now Bool.false result self.now }
+    {
+        if self.cage.number() == number && self.cage.readings().len() as u64 == count {
+            self.fetch(alloc)
+        } else {
+            stale()
+        }
+    }
+
+    /// The readings of the last scan, copied: their text is made where nobody waits for the mainframe.
     #[inline(never)]
     pub(crate) fn fetch(&self, alloc: Global) -> SessionAnswer
         ensures { StepReadings self.now.cage.readings self.now Bool.false result self.now }
     {
         let readings = self.cage.readings();
         if readings.is_empty() {
-            return SessionAnswer::Refused(ScpiError::DataCorruptOrStale);
+            return stale();
         }
-        match all_readings(alloc, readings) {
-            Ok(text) => answered(AnswerText::bytes(text)),
+        match ReadingsText::of(alloc, readings) {
+            Ok(readings) => answered(AnswerText::readings(readings)),
             Err(_) => SessionAnswer::Refused(ScpiError::OutOfMemory),
         }
     }
+}
+
+/// What is answered where there are no readings to tell.
+fn stale() -> SessionAnswer
+    ensures { result ≡ Refused DataCorruptOrStale }
+{
+    SessionAnswer::Refused(ScpiError::DataCorruptOrStale)
 }

@@ -245,7 +245,7 @@ impl<R: Relay, M: Meter> Core<R, M> {
             return SessionAnswer::Refused(error);
         }
         match self.take_snapshot(alloc) {
-            Ok(snapshot) => SessionAnswer::Snapshot(snapshot),
+            Ok(snapshot) => SessionAnswer::Snapshot(snapshot, self.cage.number()),
             Err(_) => SessionAnswer::Refused(ScpiError::OutOfMemory),
         }
     }

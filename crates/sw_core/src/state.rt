@@ -90,6 +90,13 @@ impl<R: Relay, M: Meter> Core<R, M> {
         self.events
     }
 
+    /// Whether a scan runs.
+    pub fn is_running(&self) -> bool
+        ensures { result ≡ is_running self.now }
+    {
+        self.cage.is_running()
+    }
+
     /// The status byte without bits 4 and 6, and the number of service requests so far: what is published of the
     /// status.
     pub fn pair(&self) -> (u8, u64)

@@ -2,7 +2,6 @@
 
 ghost use Rattle.std.specs.Prelude.{◌≡◌, ◌<◌, ◌∷◌, [], ◌++◌, List, ℕ, length, IfOk, OnOk, Some, map};
 ghost use Rattle.std.specs.List.{join_with_byte};
-ghost use Rattle.sw_base.specs.Reading.{reading_text};
 ghost use Rattle.sw_cage.specs.Accounts.{is_closed};
 ghost use Rattle.sw_core.specs.Answers.{identity_text, version, yes_or_no, as_asked, entry, error_entry, no_error};
 ghost use Rattle.sw_core.specs.Answers.{all_entries, source_word, IsRow, IsOpenEnded};
@@ -11,15 +10,12 @@ ghost use Rattle.sw_core.specs.declared.ask.SessionAnswer.TheVariants.{Done};
 use crate::answer_text::AnswerText;
 use crate::ask::SessionAnswer;
 use std::alloc::{AllocError, Global};
-use sw_base::{Chan, NO_ERROR, Reading, ScpiError, Sequence, Source, print_reading, print_signed};
+use sw_base::{Chan, NO_ERROR, ScpiError, Sequence, Source, print_signed};
 use sw_cage::Cage;
 use sw_card::{Meter, Relay};
 
 /// For how many bytes there is room in a text that grows.
 const ROOM: usize = 64;
-
-/// For how many bytes there is room for each reading: one below ten volts, and a comma.
-const READING_ROOM: usize = 12;
 
 /// The maker, the model, the serial number and the version (IEEE 488.2, 10.14).
 pub fn identity() -> AnswerText
@@ -104,29 +100,6 @@ pub fn all_entries(alloc: Global, errors: &[ScpiError]) -> Result<Sequence<u8>, 
     Ok(Sequence::new(text))
 }
 
-/// The readings, joined by commas.
-#[tactic(auto, using(crate::proofs::RowsLemmas::reading_some))]
-pub fn all_readings(alloc: Global, readings: &[Reading]) -> Result<Sequence<u8>, AllocError>
-    ensures { IfOk result (λ text. text ≡ join_with_byte 44 (map reading_text readings.now)) }
-{
-    let mut text = Vec::with_capacity(alloc, readings.len().saturating_mul(READING_ROOM))?;
-    for reading in readings {
-        separate(&mut text)?;
-        add_reading(&mut text, *reading)?;
-    }
-    Ok(Sequence::new(text))
-}
-
-/// Adds a reading.
-fn add_reading(text: &mut Vec<u8>, reading: Reading) -> Result<(), AllocError>
-    ensures { OnOk result (text.new.items ≡ text.old.items ++ reading_text reading) }
-{
-    let mut buffer = [0; 32];
-    let end = print_reading(reading, &mut buffer);
-    text.extend_from_slice(&buffer[..end])?;
-    Ok(())
-}
-
 /// What an empty error queue answers.
 fn nothing(alloc: Global) -> Result<Sequence<u8>, AllocError>
     ensures { IfOk result (λ text. text ≡ no_error) }
@@ -157,7 +130,7 @@ fn add_numbered(text: &mut Vec<u8>, number: i64, words: &str) -> Result<(), Allo
 }
 
 /// Adds a comma behind the pieces that the text has, where there are any.
-fn separate(text: &mut Vec<u8>) -> Result<(), AllocError>
+pub fn separate(text: &mut Vec<u8>) -> Result<(), AllocError>
     ensures { OnOk result ((pieces : List (List ℕ)) → IsRow text.old.items pieces → IsOpenEnded text.new.items pieces) }
 {
     if text.is_empty() {

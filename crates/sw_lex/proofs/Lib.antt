@@ -21,3 +21,4 @@ pub mod ReadingsLemmas
 pub mod MeaningsLemmas
 pub mod InnersLemmas
 pub mod PlainLemmas
+pub mod HelpLemmas

@@ -58,3 +58,4 @@ greatest whole_ones.Points = most_points
 abbrev pub least_micros : Time → ℕ
 least_micros times.Delay = 0
 least_micros times.Timer = 1
+least_micros times.Settling = 0

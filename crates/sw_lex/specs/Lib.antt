@@ -8,6 +8,8 @@ pub mod Packed
 pub mod Split
 pub mod Headed
 pub mod Apart
+pub mod Block
+pub mod Help
 pub mod Parts
 pub mod Commands
 pub mod Values

@@ -71,6 +71,8 @@ table =
     ∷ (codes "ROUTe:OPEN", keys.Channels lists.Open)
     ∷ (codes "ROUTe:OPEN?", keys.Channels lists.OpenQuery)
     ∷ (codes "ROUTe:OPEN:ALL", keys.Plain plain.OpenAll)
+    ∷ (codes "ROUTe:CHANnel:DELay", keys.Time times.Settling families.Trigger)
+    ∷ (codes "ROUTe:CHANnel:DELay?", keys.Query queries.Settling)
     ∷ (codes "ROUTe:SCAN", keys.Scan)
     ∷ (codes "ROUTe:SCAN?", keys.Query queries.Scan)
     ∷ (codes "ROUTe:SCAN:METer", keys.Whole wholes.ScanMeter)
@@ -95,9 +97,12 @@ table =
     ∷ (codes "SYSTem:ERRor[:NEXT]?", keys.ReadOut reads.NextError)
     ∷ (codes "SYSTem:ERRor:ALL?", keys.ReadOut reads.AllErrors)
     ∷ (codes "SYSTem:ERRor:COUNt?", keys.Query queries.ErrorCount)
+    ∷ (codes "SYSTem:HELP:HEADers?", keys.Query queries.Headers)
     ∷ (codes "SYSTem:VERSion?", keys.Query queries.Version)
     ∷ (codes "DIAGnostic:SCAN:BOUNd?", keys.Query queries.Bound)
+    ∷ (codes "DIAGnostic:CLOSe:CHECk?", keys.Channels lists.CloseCheck)
     ∷ (codes "FETCh?", keys.Plain plain.Fetch)
+    ∷ (codes "READ?", keys.Plain plain.Read)
     ∷ []
 
 -- ---- what is written there

@@ -68,7 +68,7 @@ pub fn least_micros(time: Time) -> u64
     ensures { result ≡ least_micros time }
 {
     match time {
-        Time::Delay => 0,
+        Time::Delay | Time::Settling => 0,
         Time::Timer => 1,
     }
 }

@@ -37,6 +37,9 @@ pub enum Command {
     Macros(AllMacros),
     /// A command of one macro, or of whether macros are on.
     Macro(MacroCommand),
+    /// The readings of the scan with this number, where it has made so many: what `READ?` asks for once it has begun
+    /// that scan. No header is it.
+    ScanReadings(u64, u64),
 }
 
 /// The commands without data.
@@ -64,6 +67,8 @@ pub enum Plain {
     Preset,
     /// `FETCh?`
     Fetch,
+    /// `READ?`
+    Read,
 }
 
 /// The queries without data that change nothing.
@@ -83,12 +88,16 @@ pub enum PlainQuery {
     InitiateContinuous,
     /// `ROUTe:CLOSe:STATe?`
     CloseState,
+    /// `ROUTe:CHANnel:DELay?`
+    Settling,
     /// `ROUTe:SCAN?`
     Scan,
     /// `ROUTe:SCAN:METer?`
     ScanMeter,
     /// `SYSTem:ERRor:COUNt?`
     ErrorCount,
+    /// `SYSTem:HELP:HEADers?`
+    Headers,
     /// `SYSTem:VERSion?`
     Version,
     /// `TRACe:POINts?`
@@ -149,13 +158,16 @@ pub enum Channels {
     Open,
     /// `ROUTe:OPEN?`
     OpenQuery,
+    /// `DIAGnostic:CLOSe:CHECk?`
+    CloseCheck,
 }
 
-/// The times of a trigger layer.
+/// The times of a trigger layer. TRIGger alone has the one for which a closed position settles.
 #[derive(Clone, Copy, Debug, PartialEq, Eq)]
 pub enum Time {
     Delay,
     Timer,
+    Settling,
 }
 
 /// The settings of scans, each with its value.
@@ -166,7 +178,7 @@ pub enum Setting {
     /// `ARM[:LAYer]:SOURce`, `TRIGger:SOURce`
     Source(LayerName, Source),
     /// `ARM[:LAYer]:DELay`, `TRIGger:DELay`: whole microseconds, 0 to 3,600,000,000; `ARM[:LAYer]:TIMer`,
-    /// `TRIGger:TIMer`: whole microseconds, 1 to 3,600,000,000.
+    /// `TRIGger:TIMer`: whole microseconds, 1 to 3,600,000,000; `ROUTe:CHANnel:DELay`: as a delay's.
     Time(Time, LayerName, u64),
     /// `ROUTe:SCAN`: these positions, in this order.
     Scan(Sequence<Position>),

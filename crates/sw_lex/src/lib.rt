@@ -14,6 +14,7 @@ mod command;
 mod common_rows;
 mod elements;
 mod headers;
+mod help;
 mod meaning;
 mod mnemonics;
 mod numerals;
@@ -34,6 +35,7 @@ pub use command::{
 };
 pub use elements::ElementKind;
 pub use headers::one_command;
+pub use help::headers_text;
 pub use meaning::{every_spelling, one_meaning, resolve};
 pub use path::Path;
 pub use raw_unit::RawUnit;

@@ -32,6 +32,18 @@ pub const BOUND: Form = Form {
     long: 0x1_42_4F_55_4E_44,
 };
 
+pub const CHANNEL: Form = Form {
+    text: b"CHANnel",
+    short: 0x1_43_48_41_4E,
+    long: 0x1_43_48_41_4E_4E_45_4C,
+};
+
+pub const CHECK: Form = Form {
+    text: b"CHECk",
+    short: 0x1_43_48_45_43,
+    long: 0x1_43_48_45_43_4B,
+};
+
 pub const CLOSE: Form = Form {
     text: b"CLOSe",
     short: 0x1_43_4C_4F_53,
@@ -90,6 +102,18 @@ pub const FETCH: Form = Form {
     text: b"FETCh",
     short: 0x1_46_45_54_43,
     long: 0x1_46_45_54_43_48,
+};
+
+pub const HEADERS: Form = Form {
+    text: b"HEADers",
+    short: 0x1_48_45_41_44,
+    long: 0x1_48_45_41_44_45_52_53,
+};
+
+pub const HELP: Form = Form {
+    text: b"HELP",
+    short: 0x1_48_45_4C_50,
+    long: 0x1_48_45_4C_50,
 };
 
 pub const IMMEDIATE: Form = Form {
@@ -162,6 +186,12 @@ pub const QUESTIONABLE: Form = Form {
     text: b"QUEStionable",
     short: 0x1_51_55_45_53,
     long: 0x1_51_55_45_53_54_49_4F_4E_41_42_4C_45,
+};
+
+pub const READ: Form = Form {
+    text: b"READ",
+    short: 0x1_52_45_41_44,
+    long: 0x1_52_45_41_44,
 };
 
 pub const ROUTE: Form = Form {

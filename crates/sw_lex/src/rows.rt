@@ -8,10 +8,10 @@ ghost use Rattle.sw_lex.specs.Parts.{IsPart};
 
 use crate::command::{Channels, GroupQuery, LayerQuery, Plain, PlainQuery, StatusRead, Time};
 use crate::mnemonics::{
-    ABORT, ACTUAL, ALL, ARM, BOUND, CLOSE, CONDITION, CONTINUOUS, COUNT, DELAY, DIAGNOSTIC, ENABLE,
-    ERROR, EVENT, FETCH, IMMEDIATE, INITIATE, LAYER, METER, NEXT, NTRANSITION, OPEN, OPERATION,
-    POINTS, PRESET, PTRANSITION, QUESTIONABLE, ROUTE, SCAN, SIGNAL, SOURCE, STATE, STATUS, SYSTEM,
-    TIMER, TRACE, TRIGGER, VERSION,
+    ABORT, ACTUAL, ALL, ARM, BOUND, CHANNEL, CHECK, CLOSE, CONDITION, CONTINUOUS, COUNT, DELAY,
+    DIAGNOSTIC, ENABLE, ERROR, EVENT, FETCH, HEADERS, HELP, IMMEDIATE, INITIATE, LAYER, METER,
+    NEXT, NTRANSITION, OPEN, OPERATION, POINTS, PRESET, PTRANSITION, QUESTIONABLE, READ, ROUTE,
+    SCAN, SIGNAL, SOURCE, STATE, STATUS, SYSTEM, TIMER, TRACE, TRIGGER, VERSION,
 };
 use crate::packing::Form;
 use crate::rows::HeaderNode::{May, Must, Numbered};
@@ -190,26 +190,40 @@ static PATHS_R: Part = Part {
             Command(&[Must(CLOSE)], Key::Channels(Channels::Close)),
             Command(&[Must(OPEN)], Key::Channels(Channels::Open)),
             Command(&[Must(OPEN), Must(ALL)], Key::Plain(Plain::OpenAll)),
+            Command(
+                &[Must(CHANNEL), Must(DELAY)],
+                Key::Time(Time::Settling, Trigger),
+            ),
             Command(&[Must(SCAN)], Key::Scan),
             Command(&[Must(SCAN), Must(METER)], Key::Whole(Whole::ScanMeter)),
         ],
     }],
-    queries: &[Group {
-        first: ROUTE,
-        rows: &[
-            Query(&[Must(CLOSE)], Key::Channels(Channels::CloseQuery)),
-            Query(
-                &[Must(CLOSE), Must(STATE)],
-                Key::Query(PlainQuery::CloseState),
-            ),
-            Query(&[Must(OPEN)], Key::Channels(Channels::OpenQuery)),
-            Query(&[Must(SCAN)], Key::Query(PlainQuery::Scan)),
-            Query(
-                &[Must(SCAN), Must(METER)],
-                Key::Query(PlainQuery::ScanMeter),
-            ),
-        ],
-    }],
+    queries: &[
+        Group {
+            first: ROUTE,
+            rows: &[
+                Query(&[Must(CLOSE)], Key::Channels(Channels::CloseQuery)),
+                Query(
+                    &[Must(CLOSE), Must(STATE)],
+                    Key::Query(PlainQuery::CloseState),
+                ),
+                Query(&[Must(OPEN)], Key::Channels(Channels::OpenQuery)),
+                Query(
+                    &[Must(CHANNEL), Must(DELAY)],
+                    Key::Query(PlainQuery::Settling),
+                ),
+                Query(&[Must(SCAN)], Key::Query(PlainQuery::Scan)),
+                Query(
+                    &[Must(SCAN), Must(METER)],
+                    Key::Query(PlainQuery::ScanMeter),
+                ),
+            ],
+        },
+        Group {
+            first: READ,
+            rows: &[Query(&[], Key::Plain(Plain::Read))],
+        },
+    ],
 };
 
 static PATHS_S: Part = Part {
@@ -304,6 +318,10 @@ static PATHS_S: Part = Part {
                     &[Must(ERROR), Must(COUNT)],
                     Key::Query(PlainQuery::ErrorCount),
                 ),
+                Query(
+                    &[Must(HELP), Must(HEADERS)],
+                    Key::Query(PlainQuery::Headers),
+                ),
                 Query(&[Must(VERSION)], Key::Query(PlainQuery::Version)),
             ],
         },
@@ -314,7 +332,13 @@ static PATHS_D: Part = Part {
     commands: &[],
     queries: &[Group {
         first: DIAGNOSTIC,
-        rows: &[Query(&[Must(SCAN), Must(BOUND)], Key::Query(PlainQuery::Bound))],
+        rows: &[
+            Query(&[Must(SCAN), Must(BOUND)], Key::Query(PlainQuery::Bound)),
+            Query(
+                &[Must(CLOSE), Must(CHECK)],
+                Key::Channels(Channels::CloseCheck),
+            ),
+        ],
     }],
 };
 

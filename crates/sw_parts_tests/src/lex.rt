@@ -4,8 +4,8 @@ use std::alloc::Global;
 use std::test::Fail;
 use sw_base::{Chan, LayerName, ScpiError, Source, StatusGroup};
 use sw_lex::{
-    Channels, Command, Element, Elements, LayerQuery, MacroCommand, Path, PlainQuery, RawUnit,
-    Setting, StatusSetting, Time, next_unit, resolve,
+    Channels, Command, Element, Elements, LayerQuery, MacroCommand, Path, Plain, PlainQuery,
+    RawUnit, Setting, StatusSetting, Time, next_unit, resolve,
 };
 
 /// What the first unit of a text gives below this path.
@@ -48,8 +48,11 @@ fn parts(command: &Command) -> (&str, &[Chan]) {
     match command {
         Command::Query(PlainQuery::Identify) => ("identify", &[]),
         Command::Query(PlainQuery::CloseState) => ("state?", &[]),
+        Command::Query(PlainQuery::Headers) => ("headers?", &[]),
+        Command::Plain(Plain::Read) => ("read?", &[]),
         Command::Channels(Channels::Close, list) => ("close", list.as_slice()),
         Command::Channels(Channels::CloseQuery, list) => ("close?", list.as_slice()),
+        Command::Channels(Channels::CloseCheck, list) => ("check?", list.as_slice()),
         Command::Channels(Channels::Open, list) => ("open", list.as_slice()),
         _ => ("another", &[]),
     }
@@ -110,6 +113,16 @@ fn reads_commands(rt: HostRuntime) {
     assert!(rt; reads_first(alloc, b"rout:close (@2!3,2!1,202)", "close", &list));
     assert!(rt; reads_first(alloc, b"ROUT:CLOS (@1601)", "close", &[Chan::new(16, 1)]));
     assert!(rt; reads_first(alloc, b":ROUTE:CLOSE:STATE?", "state?", &[]));
+    assert!(rt; reads_first(alloc, b"syst:help:head?", "headers?", &[]));
+    assert!(rt; reads_first(alloc, b"READ?", "read?", &[]));
+    assert!(rt;
+        reads_first(
+            alloc,
+            b"DIAG:CLOS:CHEC? (@1601)",
+            "check?",
+            &[Chan::new(16, 1)]
+        )
+    );
     assert!(rt; reads_second(alloc, b"FOO;*IDN?", "identify", &[]));
 }
 
@@ -172,12 +185,13 @@ fn numbers(command: &Command) -> (u64, u8) {
     }
 }
 
-/// A setting's number, and its layer where it has one.
+/// A setting's number, and its layer where it has one; 8 for the time that a position settles.
 fn setting_numbers(setting: &Setting) -> (u64, u8) {
     match setting {
         Setting::ScanMeter(n) => (u64::from(*n), 0),
         Setting::Count(layer, n) => (u64::from(*n), layer_number(*layer)),
         Setting::Time(Time::Delay, layer, n) => (*n, layer_number(*layer)),
+        Setting::Time(Time::Settling, LayerName::Trigger, n) => (*n, 8),
         Setting::Source(layer, Source::External) => (77, layer_number(*layer)),
         Setting::Source(layer, Source::Timer) => (78, layer_number(*layer)),
         Setting::Points(n) => (u64::from(*n), 0),
@@ -248,6 +262,8 @@ fn reads_numbers(rt: HostRuntime) {
         (b"TRIG:DEL 1.0000005".as_slice(), (1_000_001, 9)),
         (b"TRIG:DEL 500 MS".as_slice(), (500_000, 9)),
         (b"ARM:LAY2:DEL 3us".as_slice(), (3, 2)),
+        (b"ROUT:CHAN:DEL 10 MS".as_slice(), (10_000, 8)),
+        (b"route:channel:delay 3600".as_slice(), (3_600_000_000, 8)),
         (b"TRIG:SOUR ext".as_slice(), (77, 9)),
         (b"TRIG:SOUR TIM".as_slice(), (78, 9)),
         (b"ARM:LAYER3:SOURCE timer".as_slice(), (78, 3)),

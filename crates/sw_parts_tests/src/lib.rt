@@ -33,6 +33,8 @@ mod macros;
 #[cfg(test)]
 mod positions;
 #[cfg(test)]
+mod settling;
+#[cfg(test)]
 mod status;
 #[cfg(test)]
 mod trigger;

@@ -303,3 +303,46 @@ fn timers_of_layers(rt: HostRuntime) -> Result<(), Fail> {
     drop(settings);
     result
 }
+
+/// Whether a position settles between its closing and its reading, wherever a pass awaits more before it.
+fn settles(alloc: Global, settings: &mut Settings) -> Result<bool, Fail> {
+    set_worked(alloc, settings)?;
+    settings.set_settling(250_000)?;
+    Ok(
+        comes_to(settings, 20, 6)
+            && awaits(settings, 0, Some(Awaited::Wait(FIRST)))
+            && awaits(settings, 1, Some(Awaited::Pause(500_000)))
+            && awaits(settings, 2, Some(Awaited::Pause(250_000)))
+            && awaits(settings, 3, Some(Awaited::Read))
+            && awaits(settings, 10, Some(Awaited::Wait(FIRST)))
+            && awaits(settings, 18, Some(Awaited::Pause(250_000)))
+            && awaits(settings, 19, Some(Awaited::Read))
+            && awaits(settings, 20, None),
+    )
+}
+
+/// Whether the time is kept in its range, told, copied and compared, and gone at a reset.
+fn keeps_its_settling(alloc: Global, settings: &mut Settings) -> Result<bool, Fail> {
+    let is_refused = is_out_of_range(settings.set_settling(3_600_000_001));
+    let mut copy = settings.try_copy(alloc)?;
+    let is_same = settings.is_same(&copy) && copy.settle_us() == 250_000;
+    let set = copy.set_settling(0);
+    let is_other = set == Ok(()) && !settings.is_same(&copy) && comes_to(&copy, 14, 6);
+    drop(copy);
+    settings.reset();
+    Ok(is_refused && is_same && is_other && settings.settle_us() == 0)
+}
+
+fn settle(rt: &impl Abort, alloc: Global, settings: &mut Settings) -> Result<(), Fail> {
+    assert!(rt; settles(alloc, settings)?);
+    assert!(rt; keeps_its_settling(alloc, settings)?);
+    Ok(())
+}
+
+#[test]
+fn positions_settle(rt: HostRuntime) -> Result<(), Fail> {
+    let mut settings = Settings::new(rt.alloc());
+    let result = settle(&rt, rt.alloc(), &mut settings);
+    drop(settings);
+    result
+}

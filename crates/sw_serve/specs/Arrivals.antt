@@ -1,11 +1,12 @@
 -- Connections that come to a port.
 use Rattle.std.specs.Prelude.{◌≡◌, ◌≤◌, ◌+◌, ◌⊎◌, ℕ}
 use Rattle.sw_serve.specs.declared.port.Arrival.{Arrival}
-use Rattle.sw_serve.specs.declared.port.Arrival.TheVariants.{Ended}
+use Rattle.sw_serve.specs.declared.port.Arrival.TheVariants.{Ended, Aborts}
 
 -- how many connections have come after this: those that failed count
 abbrev pub count_after : {C : Type 0} → Arrival C → ℕ → ℕ
 count_after Ended taken = taken
+count_after Aborts taken = taken
 count_after _ taken = taken + 1
 
 -- so many connections came to a port, or fewer before it ended

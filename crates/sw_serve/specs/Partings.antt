@@ -4,6 +4,8 @@ use Rattle.sw_session.specs.declared.servers.fault.ServeFault.{ServeFault}
 use Rattle.sw_session.specs.declared.servers.fault.ServeFault.TheVariants.{Read, Write, Wire, Fatal}
 use Rattle.sw_session.specs.declared.servers.fault.ServeFault.TheVariants.{NoMemory, ReadBound}
 use Rattle.sw_serve.specs.declared.log.Parting.{Parting}
+use Rattle.sw_serve.specs.declared.log.Remark.{Remark}
+use Rattle.sw_serve.specs.declared.log.Remark.TheVariants.{NoInput, Aborted}
 use Rattle.sw_serve.specs.declared.log.Parting.TheVariants as parting
 
 -- by the FatalError that was told: code 4 says that there are too many clients
@@ -20,4 +22,10 @@ parting_of (Err Wire) fatal heard = parting.BrokenHeader
 parting_of (Err Fatal) fatal heard = after_fatal fatal
 parting_of (Err NoMemory) fatal true = parting.NoMemory
 parting_of (Err NoMemory) fatal false = parting.Full
-parting_of (Err ReadBound) fatal heard = parting.Fault
+parting_of (Err ReadBound) fatal heard = parting.ReadBound
+
+-- what answers an operator, or says why the server ends, is told also where nothing else is
+abbrev pub is_answer : Remark → Bool
+is_answer NoInput = true
+is_answer Aborted = true
+is_answer remark = false

@@ -1,6 +1,6 @@
 //! What the threads of a server share: the mainframe, and the desks that no thread has.
 
-use std::alloc::Global;
+use std::alloc::{AllocError, Global};
 use std::mem;
 use std::sync::{Arc, Mutex, Wait};
 use std::time::Clock;
@@ -18,6 +18,8 @@ pub struct DeskPool<
 > {
     shared: Arc<Shared<H, R, M, G>, Global>,
     free: Mutex<Vec<SharedDesk<H, R, M, G, W>>>,
+    /// The server's own desk, by which every relay is opened. It is there until all desks are taken.
+    own: Mutex<Option<SharedDesk<H, R, M, G, W>>>,
     rt: W,
 }
 
@@ -28,12 +30,28 @@ impl<H: Mainframe, R: Relay, M: Meter, G: Gate + Drop, W: Wait + Clock + Copy + 
     G,
     W,
 > {
-    /// A mainframe without a desk.
-    pub fn new(rt: W, alloc: Global, shared: Arc<Shared<H, R, M, G>, Global>) -> Self {
-        DeskPool {
+    /// A mainframe with the server's own desk alone.
+    pub fn new(
+        rt: W,
+        alloc: Global,
+        shared: Arc<Shared<H, R, M, G>, Global>,
+    ) -> Result<Self, AllocError> {
+        let Some(own) = SharedDesk::open(rt, &shared) else {
+            return Err(AllocError);
+        };
+        Ok(DeskPool {
             shared,
             free: Mutex::new(Vec::new(alloc)),
+            own: Mutex::new(Some(own)),
             rt,
+        })
+    }
+
+    /// Ends the scan that runs and opens every relay, whoever has a lock.
+    pub fn open_all(&self) {
+        let mut guard = self.own.lock(&self.rt);
+        if let Some(desk) = &mut *guard {
+            desk.open_all();
         }
     }
 
@@ -64,8 +82,11 @@ impl<H: Mainframe, R: Relay, M: Meter, G: Gate + Drop, W: Wait + Clock + Copy + 
         self.shared.end_work(&self.rt);
     }
 
-    /// All desks that were given back.
+    /// All desks that were given back, and the server's own.
     pub fn take_desks(&self, alloc: Global) -> Vec<SharedDesk<H, R, M, G, W>> {
+        if let Some(own) = self.own.lock(&self.rt).take() {
+            self.give_back(own);
+        }
         mem::replace(&mut *self.free.lock(&self.rt), Vec::new(alloc))
     }
 }

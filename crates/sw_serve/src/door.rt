@@ -3,6 +3,7 @@
 ghost use Rattle.std.specs.Prelude.{◌≡◌, true, false};
 
 use crate::log::{Log, Remark};
+use crate::orders::Orders;
 use crate::port::{Arrival, Port};
 use crate::visitor::Visitor;
 use libc::net::{POLLIN, poll};
@@ -12,22 +13,42 @@ use std::io::{ErrorKind, Read};
 use std::net::TcpListener;
 use std::os::fd::{AsRawFd, RawFd};
 use std::sync::Wait;
-use std::thread;
-use std::time::{Clock, Duration};
+use std::time::{Clock, Duration, Instant};
+use std::{mem, thread};
 use sw_workers::Tcp;
 
 /// How long a door rests after a connection that failed, in milliseconds.
 const REST_MS: u64 = 10;
 
+/// For how many milliseconds after it has told of a connection that failed it tells of no other.
+const QUIET_MS: u128 = 1_000;
+
+/// What a door waits for.
+enum Coming {
+    Connection,
+    /// A line `abort` on the input.
+    Abort,
+    /// The end of the input; it had come before the first wait, or later.
+    End { is_at_once: bool },
+}
+
 /// A listener, and how many connections came to it, those among them that failed. Where it has an input, no connection
-/// is taken after that has ended or failed; what comes from it before is let go. What comes and goes is told to a log.
+/// is taken after that has ended or failed; of what comes from it before, lines `abort` are orders, and all else is let
+/// go. What comes and goes is told to a log.
 #[derive(Drop)]
 pub struct Door<'a, W: Wait + Clock + Copy + Drop, I: Read + AsRawFd + Drop, L: Log + Copy + Drop> {
     rt: W,
     alloc: Global,
     listener: &'a TcpListener,
     input: Option<I>,
+    orders: Orders,
     log: L,
+    /// An abort was asked for, and not told yet: it is done where the next connection is asked for.
+    is_aborting: bool,
+    /// Nothing was waited for yet.
+    is_new: bool,
+    /// When a connection failed that was told of.
+    told_at: Option<Instant>,
     pub taken: u32,
     pub is_over: bool,
 }
@@ -47,16 +68,40 @@ impl<'a, W: Wait + Clock + Copy + Drop, I: Read + AsRawFd + Drop, L: Log + Copy 
             alloc,
             listener,
             input,
+            orders: Orders::new(),
             log,
+            is_aborting: false,
+            is_new: true,
+            told_at: None,
             taken: 0,
             is_over: false,
         }
     }
 
+    /// Tells of a connection that failed, once a second at most, and rests for a moment.
+    fn rest(&mut self)
+        ensures { self.new.taken ≡ self.old.taken }
+    {
+        let now = Instant::now(&self.rt).ok();
+        let is_due = match (self.told_at, now) {
+            (Some(told), Some(now)) => {
+                now.saturating_duration_since(told).as_millis() >= QUIET_MS
+            }
+            _ => true,
+        };
+        if is_due {
+            self.log.tell(Remark::Untaken);
+            self.told_at = now;
+        }
+        thread::sleep(&self.rt, Duration::from_millis(REST_MS));
+    }
+
     /// The next connection. None where it fails.
-    fn next(&self) -> Option<Visitor<L>> {
+    fn next(&mut self) -> Option<Visitor<L>>
+        ensures { self.new.taken ≡ self.old.taken }
+    {
         let Ok((stream, from)) = self.listener.accept() else {
-            thread::sleep(&self.rt, Duration::from_millis(REST_MS));
+            self.rest();
             return None;
         };
         self.log.tell(Remark::Taken(self.taken, from));
@@ -77,11 +122,34 @@ impl<
     ghost ended = { λ d. d.is_over ≡ true };
 
     fn accept(&mut self) -> Arrival<Visitor<L>> {
-        if let Some(input) = &mut self.input {
-            self.is_over = ends_first(&self.rt, self.listener, input);
+        if self.is_aborting {
+            self.is_aborting = false;
+            self.log.tell(Remark::Aborted);
         }
-        if self.is_over {
-            return Arrival::Ended;
+        let coming = match &mut self.input {
+            Some(input) => await_coming(
+                &self.rt,
+                self.listener,
+                input,
+                &mut self.orders,
+                self.is_new,
+            ),
+            None => Coming::Connection,
+        };
+        self.is_new = false;
+        match coming {
+            Coming::Connection => {}
+            Coming::Abort => {
+                self.is_aborting = true;
+                return Arrival::Aborts;
+            }
+            Coming::End { is_at_once } => {
+                if is_at_once {
+                    self.log.tell(Remark::NoInput);
+                }
+                self.is_over = true;
+                return Arrival::Ended;
+            }
         }
         self.taken += 1;
         match self.next() {
@@ -91,26 +159,36 @@ impl<
     }
 }
 
-/// Waits until a connection comes or the input ends, and tells whether it has ended.
-fn ends_first<W: Wait + Clock, I: Read + AsRawFd>(
+/// Waits until a connection comes, a line `abort`, or the end of the input. `is_new` tells whether nothing was waited
+/// for yet.
+fn await_coming<W: Wait + Clock, I: Read + AsRawFd>(
     rt: &W,
     listener: &TcpListener,
     input: &mut I,
-) -> bool {
+    orders: &mut Orders,
+    is_new: bool,
+) -> Coming {
+    let mut ms = if is_new { 0 } else { -1 };
     for _ in rt.forever() {
-        let (has_connection, has_input) = look(rt, listener.as_raw_fd(), input.as_raw_fd());
-        if has_input && has_ended(input) {
-            return true;
+        let (has_connection, has_input) = look(rt, listener.as_raw_fd(), input.as_raw_fd(), ms);
+        match hear(input, orders, has_input) {
+            Heard::Abort => return Coming::Abort,
+            Heard::End => return Coming::End {
+                is_at_once: ms == 0,
+            },
+            Heard::Other => {}
         }
         if has_connection {
-            return false;
+            return Coming::Connection;
         }
+        ms = -1;
     }
     unreachable!()
 }
 
-/// Waits until one of them has something, and tells which of both.
-fn look<C: Clock>(rt: &C, first: RawFd, second: RawFd) -> (bool, bool) {
+/// Waits until one of them has something, for so many milliseconds, or as long as it takes where these are -1, and tells
+/// which of both.
+fn look<C: Clock>(rt: &C, first: RawFd, second: RawFd, ms: i32) -> (bool, bool) {
     let mut looks = [
         pollfd {
             fd: first,
@@ -123,18 +201,38 @@ fn look<C: Clock>(rt: &C, first: RawFd, second: RawFd) -> (bool, bool) {
             revents: 0,
         },
     ];
-    if poll(&mut looks, -1) < 0 {
+    if poll(&mut looks, ms) < 0 {
         thread::sleep(rt, Duration::from_millis(REST_MS));
         return (false, false);
     }
     (looks[0].revents != 0, looks[1].revents != 0)
 }
 
-/// Lets go what the input has, and tells whether it has ended or failed.
-fn has_ended<I: Read>(input: &mut I) -> bool {
+/// What an input had.
+enum Heard {
+    Abort,
+    End,
+    Other,
+}
+
+/// Takes what the input has, if anything: a line `abort`, its end or its failure, or what is let go.
+fn hear<I: Read>(input: &mut I, orders: &mut Orders, has_input: bool) -> Heard {
+    if !has_input {
+        return Heard::Other;
+    }
     let mut bytes = [0_u8; 512];
     match input.read(&mut bytes) {
-        Ok(n) => n == 0,
-        Err(error) => !matches!(error.kind(), ErrorKind::Interrupted | ErrorKind::WouldBlock),
+        Ok(0) => Heard::End,
+        Ok(n) => {
+            let mut is_abort = false;
+            for byte in &bytes[..n] {
+                is_abort = orders.take(*byte) || is_abort;
+            }
+            if is_abort { Heard::Abort } else { Heard::Other }
+        }
+        Err(error) => match error.kind() {
+            ErrorKind::Interrupted | ErrorKind::WouldBlock => Heard::Other,
+            _ => Heard::End,
+        },
     }
 }

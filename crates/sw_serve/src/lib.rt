@@ -19,6 +19,7 @@ mod desk_pool;
 mod door;
 mod failing;
 mod log;
+mod orders;
 mod port;
 mod serving;
 mod single;

@@ -1,7 +1,7 @@
 //! What a server tells of itself.
 
 ghost use Rattle.std.specs.Prelude.{◌≡◌};
-ghost use Rattle.sw_serve.specs.Partings.{parting_of};
+ghost use Rattle.sw_serve.specs.Partings.{parting_of, is_answer};
 
 use std::fmt;
 use std::fmt::{Display, Formatter, Write};
@@ -19,6 +19,21 @@ pub enum Remark {
     Left(u32, Parting),
     /// A call of the card that was offered to this slot has failed.
     CardFailed(u8),
+    /// A connection could not be taken.
+    Untaken,
+    /// The input had ended before the server began to wait.
+    NoInput,
+    /// An operator has ended the scan and opened every relay.
+    Aborted,
+}
+
+impl Remark {
+    /// Whether it is told also where nothing else is: it answers an operator, or says why the server ends.
+    pub fn is_answer(&self) -> bool
+        ensures { result ≡ is_answer self.now }
+    {
+        matches!(self, Remark::NoInput | Remark::Aborted)
+    }
 }
 
 /// How a connection has ended.
@@ -32,6 +47,8 @@ pub enum Parting {
     BrokenHeader,
     /// The client was told a FatalError with this code.
     FatalError(u8),
+    /// It was read from as often as a connection may be.
+    ReadBound,
     /// There was no room for one more.
     Full,
     NoMemory,
@@ -61,6 +78,7 @@ pub fn parting_of(served: Result<(), ServeFault>, fatal: Option<u8>, is_heard: b
     match served {
         Ok(()) => Parting::End,
         Err(ServeFault::Wire) => Parting::BrokenHeader,
+        Err(ServeFault::ReadBound) => Parting::ReadBound,
         Err(ServeFault::NoMemory) if !is_heard => Parting::Full,
         Err(ServeFault::NoMemory) => Parting::NoMemory,
         Err(ServeFault::Fatal) => match fatal {
@@ -79,6 +97,7 @@ impl Display for Parting {
             Parting::Fault => write!(f, "left: fault"),
             Parting::BrokenHeader => write!(f, "left: broken header"),
             Parting::FatalError(code) => write!(f, "left: FatalError {code}"),
+            Parting::ReadBound => write!(f, "left: too many reads"),
             Parting::Full => write!(f, "refused: full"),
             Parting::NoMemory => write!(f, "left: out of memory"),
         }
@@ -94,6 +113,14 @@ impl Display for Remark {
             }
             Remark::Left(number, parting) => write!(f, "connection {number} {parting}"),
             Remark::CardFailed(slot) => write!(f, "the card in slot {slot} failed"),
+            Remark::Untaken => write!(f, "a connection could not be taken"),
+            Remark::NoInput => {
+                write!(
+                    f,
+                    "standard input had ended from the start, and the server ends with it"
+                )
+            }
+            Remark::Aborted => write!(f, "aborted, every relay is open"),
         }
     }
 }

@@ -10,6 +10,8 @@ pub enum Arrival<C: Drop> {
     Connected(C),
     /// One failed as it came.
     Failed,
+    /// Every relay is to be opened, and the scan ended; then more connections are taken.
+    Aborts,
     /// No further connection is to be taken.
     Ended,
 }

@@ -4,7 +4,7 @@ ghost use Rattle.std.specs.Prelude.{◌≡◌, ◌≢◌, ◌≤◌, ◌+◌, �
 ghost use Rattle.sw_cage.specs.Accounts.{accounts_of};
 ghost use Rattle.sw_core.specs.Opening.{IsFresh};
 ghost use Rattle.sw_core.specs.Panel.{opening};
-ghost use Rattle.sw_serve.specs.Arrivals.{TakesUpTo};
+ghost use Rattle.sw_serve.specs.Arrivals.{TakesUpTo, count_after};
 ghost use Rattle.sw_serve.specs.Fitting.{IsUnfitted, AreWelcome};
 ghost use Rattle.sw_serve.specs.SlotCards.{cards_seen, relay_seen, meter_seen};
 ghost use Rattle.sw_serve.specs.Serving.{ClosesDown};
@@ -37,7 +37,8 @@ use sw_workers::{
 
 /// Takes so many connections, or fewer where the port ends, each served by a thread of its own over these cards, and
 /// then closes down. A connection that fails counts; one for which there is no memory or no thread is closed. Once the
-/// port has ended each session ends after the message that it is in, and one that goes on for 0.7 seconds is cut off.
+/// port has ended the scan that runs is ended and every relay opened, each session ends after the message that it is in,
+/// and one that goes on for 0.7 seconds is cut off. Once all have ended, a scan that they began meanwhile is ended too.
 ///
 /// Where the mainframe refuses a card, the first such is told, and no connection is taken.
 pub fn serve_cards<
@@ -104,15 +105,17 @@ pub fn serve_over<
 {
     let (shared, receivers) = Shared::<H, R, M, G>::new(alloc, opening, gate)?;
     let shared = Arc::new(alloc, shared)?;
-    let pool = DeskPool::new(rt, alloc, Arc::try_clone(&shared)?);
+    let pool = DeskPool::new(rt, alloc, Arc::try_clone(&shared)?)?;
     let pool = Arc::new(alloc, pool)?;
     let mut workers = ThreadPool::new(alloc)?;
     let mut sessions = ThreadPool::new(alloc)?;
     start_workers(rt, alloc, &pool, &mut workers, receivers);
     if serve_each(rt, alloc, &pool, &mut sessions, port, limit) {
+        pool.open_all();
         end_sessions(&rt, &pool, &mut sessions);
     }
     join_all(&rt, &pool, sessions);
+    pool.open_all();
     pool.end_work();
     join_all(&rt, &pool, workers);
     match close_down(&rt, alloc, shared, pool.take_desks(alloc)) {
@@ -187,17 +190,40 @@ fn serve_each<
     ensures all { result ≡ false → P.taken port.new ≡ P.taken port.old + limit }
 {
     for number in 0..limit {
-        let arrival = port.accept();
+        let arrival = next_arrival(&rt, &**pool, port);
         join_ended(&rt, &**pool, sessions);
         match arrival {
             Arrival::Connected(connection) => {
                 welcome(rt, alloc, pool, sessions, number, connection);
             }
-            Arrival::Failed => {}
+            Arrival::Failed | Arrival::Aborts => {}
             Arrival::Ended => return true,
         }
     }
     false
+}
+
+/// What comes to the port next but aborts, each of which is done at once.
+fn next_arrival<
+    H: Mainframe,
+    R: Relay,
+    M: Meter,
+    G: Gate + Drop,
+    W: Wait + Clock + Copy + Drop,
+    P: Port,
+>(rt: &W, pool: &DeskPool<H, R, M, G, W>, port: &mut P) -> Arrival<Visitor<P::Book>>
+    requires { P.taken port.old + 1 < 2 ^ 32 }
+    ensures taken { P.taken port.new ≡ count_after result (P.taken port.old) }
+    ensures ended { result ≡ Arrival.Ended → P.ended port.new }
+    ensures aborts { result ≢ Arrival.Aborts }
+{
+    for _ in rt.forever() {
+        match port.accept() {
+            Arrival::Aborts => pool.open_all(),
+            arrival => return arrival,
+        }
+    }
+    unreachable!()
 }
 
 /// How often it is looked whether all sessions have ended, and how many milliseconds lie between.

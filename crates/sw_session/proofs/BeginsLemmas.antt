@@ -12,7 +12,7 @@ use Rattle.sw_core.specs.declared.ask.SessionAsk.TheVariants as Ask
 use Rattle.sw_core.specs.declared.ask.SessionAnswer.{SessionAnswer}
 use Rattle.sw_session.specs.Trace.{Entry, Led}
 use Rattle.sw_session.specs.Macros.{Told, ActsOnMacros}
-use Rattle.sw_session.specs.Talk.{Queues, Settles, Begins, BeginsBy, begun_with, effect_of, is_own, reads_out, Reports, StartsScan, Plans, table_reset}
+use Rattle.sw_session.specs.Talk.{Queues, Settles, Begins, BeginsBy, begun_with, effect_of, is_own, reads_out, Reports, StartsScan, Plans, due_of, ReadsBack, ReadsScan, table_reset}
 use Rattle.sw_session.proofs.LedLemmas.{led-so, led-then}
 
 module _ {D : Type 0} (passes : D → Entry → D → Type 0) (sid : Sid) where
@@ -24,11 +24,26 @@ module _ {D : Type 0} (passes : D → Entry → D → Type 0) (sid : Sid) where
       StartsScan sid t final rest) p q
       (λ t mid rest s k. (told, mid, s, k))
 
+  pub read-planned : (d0 d1 d2 d3 : D) (answered : Bool) (told started final : SessionAnswer)
+      → Led passes d0 d1 (λ t rest. Settles sid 0 (Ask.Snapshot sid) t told rest)
+      → Led passes d1 d2 (λ t rest. Plans sid told t started rest)
+      → Led passes d2 d3 (λ t rest. ReadsBack sid answered (due_of told) started t final rest)
+      → Led passes d0 d3 (λ t rest. ReadsScan sid answered t final rest)
+  read-planned d0 d1 d2 d3 answered told started final p q r =
+      led-then passes d0 d1 d3 (λ t rest. Settles sid 0 (Ask.Snapshot sid) t told rest) (λ t rest.
+      (later : List Entry) × Plans sid told t started later × ReadsBack sid answered (due_of told) started later final rest) (λ t rest.
+      ReadsScan sid answered t final rest) p
+      (led-then passes d1 d2 d3 (λ t rest. Plans sid told t started rest) (λ t rest. ReadsBack sid answered (due_of told) started t final rest) (λ t rest.
+      (later : List Entry) × Plans sid told t started later × ReadsBack sid answered (due_of told) started later final rest) q r
+      (λ t later rest k l. (later, k, l)))
+      (λ t mid rest s k. (told, started, mid, k.0, s, k.1, k.2))
+
   -- a command that is the mainframe's is asked
   asked : (command : Command) (answered : Bool) (macros : Table) (t : List Entry) (final : SessionAnswer) (rest : List Entry)
       → is_own command ≡ false → Settles sid 0 (Ask.Unit sid command answered) t final rest
       → Begins sid answered (Ok command) macros t (begun_with final macros rest)
   asked (Command.Plain Plain.Initiate) answered macros t final rest own s = absurd (cc (own))
+  asked (Command.Plain Plain.Read) answered macros t final rest own s = absurd (cc (own))
   asked (Command.Plain Plain.Reset) answered macros t final rest own s = absurd (cc (own))
   asked (Command.Macros ask) answered macros t final rest own s = absurd (cc (own))
   asked (Command.Macro ask) answered macros t final rest own s = absurd (cc (own))
@@ -77,6 +92,14 @@ module _ {D : Type 0} (passes : D → Entry → D → Type 0) (sid : Sid) where
   begins-scan d0 d1 answered final macros p =
       led-so passes d0 d1 (λ t rest. StartsScan sid t final rest) (λ t rest.
       Begins sid answered (Ok (Command.Plain Plain.Initiate)) macros t (begun_with final macros rest)) p (λ t rest k. (k, refl))
+
+  -- a scan was to be read
+  pub begins-read : (d0 d1 : D) (answered : Bool) (final : SessionAnswer) (macros : Table)
+      → Led passes d0 d1 (λ t rest. ReadsScan sid answered t final rest)
+      → Led passes d0 d1 (λ t rest. Begins sid answered (Ok (Command.Plain Plain.Read)) macros t (begun_with final macros rest))
+  begins-read d0 d1 answered final macros p =
+      led-so passes d0 d1 (λ t rest. ReadsScan sid answered t final rest) (λ t rest.
+      Begins sid answered (Ok (Command.Plain Plain.Read)) macros t (begun_with final macros rest)) p (λ t rest k. (k, refl))
 
   -- a reset was asked
   pub begins-reset : (d0 d1 : D) (answered : Bool) (final : SessionAnswer) (macros macros' : Table) → macros' ≡ table_reset final macros

@@ -8,6 +8,7 @@ use Rattle.sw_base.specs.Limits.{most_bytes}
 use Rattle.sw_base.specs.declared.error.ScpiError.{ScpiError}
 use Rattle.sw_base.specs.declared.error.ScpiError.TheVariants.{SettingsConflict, OutOfMemory, InputBufferOverrun}
 use Rattle.sw_lex.specs.declared.command.Command.{Command}
+use Rattle.sw_lex.specs.declared.command.Plain.{Plain}
 use Rattle.sw_lex.specs.Unit.{UnitSeen, IsUnit, IsRefusedUnit, IsBlank}
 use Rattle.sw_lex.specs.Meaning.{Nodes, Resolves}
 use Rattle.sw_verify.specs.declared.snapshot.Snapshot.{Snapshot as Taken}
@@ -30,7 +31,7 @@ use Rattle.sw_session.specs.declared.talker.AfterUnit.TheVariants.{Goes, Drops, 
 use Rattle.sw_session.specs.Trace.{Entry, Asked, Waited}
 use Rattle.sw_session.specs.Script.{Ending, Complete, EndsRefused, EndsUnread, IsScript}
 use Rattle.sw_session.specs.Macros.{Told}
-use Rattle.sw_session.specs.Talk.{Queues, Settles, Begins, BeginsBy, Begun, begun_with, effect_of, Reports, StartsScan, Plans, table_reset, Concludes}
+use Rattle.sw_session.specs.Talk.{Queues, Settles, Begins, BeginsBy, Begun, begun_with, effect_of, Reports, StartsScan, Plans, due_of, ReadsBack, ReadsScan, BeginsScan, table_reset, Concludes}
 use Rattle.sw_session.specs.Talk.{ServesUnit}
 use Rattle.sw_session.specs.Talk.{Standing, standing, Proceeds, Way, Talks, Itself, TalksExpansion, IsExpansion, Expanded, TalksUnits, Overruns, after_queueing}
 use Rattle.sw_session.specs.Talk.{after_unit}
@@ -73,7 +74,7 @@ settles-asks sid turn ask a Broken f t r p = p.0
 settles-asks sid turn ask a (Done text) f t r p = p.0
 settles-asks sid turn ask a (Refused e) f t r p = p.0
 settles-asks sid turn ask a (Worn h) f t r p = p.0
-settles-asks sid turn ask a (Snapshot s) f t r p = p.0
+settles-asks sid turn ask a (Snapshot s number) f t r p = p.0
 
 settles-final : (sid : Sid) (turn : ℕ) (ask a : SessionAsk) (x f : SessionAnswer) (t r : List Entry) → ((h : SessionAsk) → x ≡ Hold h → ⊥)
     → Settles sid turn ask (Asked a x ∷ t) f r → (f ≡ x) × (r ≡ t)
@@ -89,7 +90,7 @@ settles-final sid turn ask a Broken f t r differs p = (p.1, p.2)
 settles-final sid turn ask a (Done text) f t r differs p = (p.1, p.2)
 settles-final sid turn ask a (Refused e) f t r differs p = (p.1, p.2)
 settles-final sid turn ask a (Worn h) f t r differs p = (p.1, p.2)
-settles-final sid turn ask a (Snapshot s) f t r differs p = (p.1, p.2)
+settles-final sid turn ask a (Snapshot s number) f t r differs p = (p.1, p.2)
 
 -- an answer that is no hold
 told-same : {T : Type 0} (b b' : T) (sid : Sid) (turn : ℕ) (ask a : SessionAsk) (x : SessionAnswer) (t t' r r' : List Entry) (f f' : SessionAnswer)
@@ -171,8 +172,8 @@ settles-same b b' sid turn ask (Asked a (Refused e) ∷ t) t' r r' f f' p q next
     told-same b b' sid turn ask a (Refused e) t t' r r' f f' (λ h is. absurd (cc (is))) p q next
 settles-same b b' sid turn ask (Asked a (Worn h) ∷ t) t' r r' f f' p q next =
     told-same b b' sid turn ask a (Worn h) t t' r r' f f' (λ h is. absurd (cc (is))) p q next
-settles-same b b' sid turn ask (Asked a (Snapshot s) ∷ t) t' r r' f f' p q next =
-    told-same b b' sid turn ask a (Snapshot s) t t' r r' f f' (λ h is. absurd (cc (is))) p q next
+settles-same b b' sid turn ask (Asked a (Snapshot s number) ∷ t) t' r r' f f' p q next =
+    told-same b b' sid turn ask a (Snapshot s number) t t' r r' f f' (λ h is. absurd (cc (is))) p q next
 settles-same b b' sid turn ask [] t' r r' f f' p q next = absurd p
 settles-same b b' sid turn ask (entry ∷ t) t' r r' f f' p q next = absurd p
 
@@ -217,7 +218,7 @@ refused-first sid s r t rest f m x q = elim x [
 
 plans-same : {T : Type 0} (b b' : T) (sid : Sid) (told : SessionAnswer) (t t' r r' : List Entry) (f f' : SessionAnswer) → Plans sid told t f r
     → Plans sid told t' f' r' → (f ≡ f' → Rests b b' r r') → Rests b b' t t'
-plans-same b b' sid (Snapshot s) t t' r r' f f' p q next = λ m n. elim p [
+plans-same b b' sid (Snapshot s number) t t' r r' f f' p q next = λ m n. elim p [
   | inl k ↦ elim q [
     | inl k' ↦ settles-same b b' sid 0 (Ask.Start sid s) t t' r r' f f' k.1 k'.1 next m n
     | inr k' ↦ absurd ((refused-first sid s k'.0 t' r' f' n k'.1 k'.2).0 k.0)
@@ -250,6 +251,27 @@ starts-same b b' sid t t' r r' f f' (told, mid, p, k) (told', mid', p', k') next
     settles-same b b' sid 0 (Ask.Snapshot sid) t t' mid mid' told told' p p'
     (λ same. plans-same b b' sid told mid mid' r r' f f' k (subst (λ (x : SessionAnswer). Plans sid x mid' f' r') (sym same) k') next)
 
+back-same : {T : Type 0} (b b' : T) (sid : Sid) (answered : Bool) (due : Option (ℕ × ℕ)) (started : SessionAnswer) (t t' r r' : List Entry)
+    (f f' : SessionAnswer) → ReadsBack sid answered due started t f r → ReadsBack sid answered due started t' f' r' → (f ≡ f' → Rests b b' r r')
+    → Rests b b' t t'
+back-same b b' sid answered (Some due) (Done text) t t' r r' f f' p q next =
+    settles-same b b' sid 0 (Ask.Unit sid (Command.ScanReadings due.0 due.1) answered) t t' r r' f f' p q next
+back-same b b' sid answered due started t t' r r' f f' p q next = stands-same b b' started t t' r r' f f' p q next
+
+reads-same : {T : Type 0} (b b' : T) (sid : Sid) (answered : Bool) (t t' r r' : List Entry) (f f' : SessionAnswer) → ReadsScan sid answered t f r
+    → ReadsScan sid answered t' f' r' → (f ≡ f' → Rests b b' r r') → Rests b b' t t'
+reads-same b b' sid answered t t' r r' f f' (told, started, mid, later, p, k, l) (told', started', mid', later', p', k', l') next =
+    settles-same b b' sid 0 (Ask.Snapshot sid) t t' mid mid' told told' p p'
+    (λ same. plans-same b b' sid told mid mid' later later' started started' k (subst (λ (x : SessionAnswer). Plans sid x mid' started' later') (sym same) k')
+    (λ alike. back-same b b' sid answered (due_of told) started later later' r r' f f' l
+    (subst (λ (x : SessionAnswer). ReadsBack sid answered (due_of x) started later' f' r') (sym same)
+    (subst (λ (x : SessionAnswer). ReadsBack sid answered (due_of told') x later' f' r') (sym alike) l')) next))
+
+scan-same : {T : Type 0} (b b' : T) (command : Command) (sid : Sid) (answered : Bool) (t t' r r' : List Entry) (f f' : SessionAnswer)
+    → BeginsScan command sid answered t f r → BeginsScan command sid answered t' f' r' → (f ≡ f' → Rests b b' r r') → Rests b b' t t'
+scan-same b b' (Command.Plain Plain.Read) sid answered t t' r r' f f' p q next = reads-same b b' sid answered t t' r r' f f' p q next
+scan-same b b' command sid answered t t' r r' f f' p q next = starts-same b b' sid t t' r r' f f' p q next
+
 reports-same : {T : Type 0} (b b' : T) (sid : Sid) (told : Told) (t t' r r' : List Entry) (f f' : SessionAnswer) → Reports sid told t f r
     → Reports sid told t' f' r' → (f ≡ f' → Rests b b' r r') → Rests b b' t t'
 reports-same b b' sid (Ok text) t t' r r' f f' p q next = stands-same b b' (Done text) t t' r r' f f' p q next
@@ -281,7 +303,7 @@ by-same : {T : Type 0} (b b' : T) (effect : Effect) (sid : Sid) (answered : Bool
     → BeginsBy effect sid answered command macros t x → BeginsBy effect sid answered command macros t' x' → Onward b b' x x' → Rests b b' t t'
 by-same b b' IsOfMacros sid answered command macros t t' x x' p q next = executes-same b b' sid answered command macros t t' x x' p q next
 by-same b b' Initiates sid answered command macros t t' x x' p q next =
-    starts-same b b' sid t t' x.rest x'.rest x.answer x'.answer p.0 q.0 (λ same. next same (p.1 ∙ sym q.1))
+    scan-same b b' command sid answered t t' x.rest x'.rest x.answer x'.answer p.0 q.0 (λ same. next same (p.1 ∙ sym q.1))
 by-same b b' Resets sid answered command macros t t' x x' p q next =
     settles-same b b' sid 0 (Ask.Unit sid command answered) t t' x.rest x'.rest x.answer x'.answer p.0 q.0
     (λ same. next same (p.1 ∙ ap (λ (a : SessionAnswer). table_reset a macros) same ∙ sym q.1))
@@ -326,7 +348,7 @@ concludes-same b b' sid answers (Done (Some text)) t t' r r' after after' told t
 ]
 concludes-same b b' sid answers (Done None) t t' r r' after after' told told' p q next = plain-same b b' t t' r r' Goes after after' answers told told' p q next
 concludes-same b b' sid answers (Joined s) t t' r r' after after' told told' p q next = plain-same b b' t t' r r' Ends after after' answers told told' p q next
-concludes-same b b' sid answers (Snapshot s) t t' r r' after after' told told' p q next =
+concludes-same b b' sid answers (Snapshot s number) t t' r r' after after' told told' p q next =
     plain-same b b' t t' r r' Ends after after' answers told told' p q next
 concludes-same b b' sid answers Full t t' r r' after after' told told' p q next = plain-same b b' t t' r r' Ends after after' answers told told' p q next
 concludes-same b b' sid answers Missed t t' r r' after after' told told' p q next = plain-same b b' t t' r r' Ends after after' answers told told' p q next

@@ -166,5 +166,5 @@ handed-back p ask f (Info exclusive holders) work q s = tt
 handed-back p ask f Stranger work q s = tt
 handed-back p ask f Broken work q s = tt
 handed-back p ask f (Done text) work q s = tt
-handed-back p ask f (Snapshot snapshot) work q s = tt
+handed-back p ask f (Snapshot snapshot number) work q s = tt
 handed-back p ask f (Refused e) work q s = tt

@@ -66,7 +66,7 @@ told turn ask asked left Broken same differ = (same, refl)
 told turn ask asked left (Done text) same differ = (same, refl)
 told turn ask asked left (Refused e) same differ = (same, refl)
 told turn ask asked left (Worn back) same differ = (same, refl)
-told turn ask asked left (Snapshot s) same differ = (same, refl)
+told turn ask asked left (Snapshot s number) same differ = (same, refl)
 
 -- answered
 pub lock-told : {D : Type 0} (passes : D → Entry → D → Type 0) (d0 d1 d2 : D) (turn : ℕ) (ask asked : SessionAsk) (limit left : Option ℕ)

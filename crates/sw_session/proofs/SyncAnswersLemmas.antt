@@ -41,7 +41,7 @@ answers-over id bytes (Done text) other = refl
 answers-over id bytes (Refused e) other = refl
 answers-over id bytes (Hold back) other = refl
 answers-over id bytes (Worn back) other = refl
-answers-over id bytes (Snapshot s) other = refl
+answers-over id bytes (Snapshot s number) other = refl
 
 pub responds-over : (said : List Sent) (id : ℕ) (bytes : List ℕ) (answer : SessionAnswer) (step : StepSeen) → ((size : ℕ) → answer ≡ Max size → ⊥)
     → step ≡ joined (goes said) over → SaysMore said step (λ own. Answers id bytes answer own)

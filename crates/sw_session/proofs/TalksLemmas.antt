@@ -103,7 +103,7 @@ settles-told sid turn ask asked Broken rest same differ = (same, refl, refl)
 settles-told sid turn ask asked (Done text) rest same differ = (same, refl, refl)
 settles-told sid turn ask asked (Refused e) rest same differ = (same, refl, refl)
 settles-told sid turn ask asked (Worn back) rest same differ = (same, refl, refl)
-settles-told sid turn ask asked (Snapshot s) rest same differ = (same, refl, refl)
+settles-told sid turn ask asked (Snapshot s number) rest same differ = (same, refl, refl)
 
 pub settle-told : {D : Type 0} (passes : D → Entry → D → Type 0) (d0 d1 d2 d3 : D) (sid : Sid) (turn : ℕ) (ask asked : SessionAsk) (left : Option ℕ)
     (final : SessionAnswer) → turn + 1 < turns → asked ≡ ask → ((held : SessionAsk) → final ≡ Hold held → ⊥) → Led passes d0 d1 (SettlesBy sid turn ask)

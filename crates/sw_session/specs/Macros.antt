@@ -1,10 +1,10 @@
 -- The macro commands: what each does to a session's macros, and what it answers (IEEE 488.2, 10.7 to 10.9, 10.13, 10.16
--- and 10.22; 8.7.9 for the block).
-use Rattle.std.specs.Prelude.{◌≡◌, ℕ, ◌+◌, List, [], ◌∷◌, ◌++◌, length, map, decimal, Option, Some, None, Result, Ok}
-use Rattle.std.specs.Prelude.{Err}
+-- and 10.22).
+use Rattle.std.specs.Prelude.{◌≡◌, ℕ, List, [], ◌∷◌, ◌++◌, map, Option, Some, None, Result, Ok, Err}
 use Rattle.std.specs.List.{join_with_byte}
 use Rattle.sw_base.specs.declared.error.ScpiError.{ScpiError}
 use Rattle.sw_base.specs.declared.error.ScpiError.TheVariants.{OutOfMemory}
+pub use Rattle.sw_lex.specs.Block.{block_of}
 use Rattle.sw_lex.specs.declared.command.Command.{Command}
 use Rattle.sw_lex.specs.declared.command.Command.TheVariants.{Macros, Macro}
 use Rattle.sw_lex.specs.declared.command.AllMacros.TheVariants.{LabelsQuery, Purge, EnableQuery}
@@ -19,10 +19,6 @@ abbrev pub Told : Type 0
 Told = Result (Option (List ℕ)) ScpiError
 
 -- ---- the texts
-
--- a definite block: `#`, a digit that counts the digits of the length, the length, and the bytes
-abbrev pub block_of : List ℕ → List ℕ
-block_of bytes = 35 ∷ (48 + length (decimal (length bytes))) ∷ (decimal (length bytes) ++ bytes)
 
 -- a label in double quotes
 abbrev pub quoted : List ℕ → List ℕ

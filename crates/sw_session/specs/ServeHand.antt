@@ -12,14 +12,16 @@ use Rattle.sw_session.specs.Trace.{Entry, Noted, Leads}
 use Rattle.sw_session.specs.ServeWrite.{wire_on, wire_off, Wrote}
 use Rattle.sw_session.specs.ServePoint.{Voice, Point}
 
-abbrev pub is_last_part : Kind → Bool
-is_last_part Kind.DataEnd = true
-is_last_part kind = false
+-- a part of an answer (IVI-6.1, Data and DataEnd)
+abbrev pub is_answer_part : Kind → Bool
+is_answer_part Kind.Data = true
+is_answer_part Kind.DataEnd = true
+is_answer_part kind = false
 
--- right before the last part of an answer is handed over, it is noted that a message is available for the session
+-- right before each part of an answer is handed over, it is noted that a message is available for the session
 abbrev pub notes_before : Option Sid → Sent → List Entry
 notes_before None s = []
-notes_before (Some sid) s = if is_last_part s.message.kind then Noted sid true ∷ [] else []
+notes_before (Some sid) s = if is_answer_part s.message.kind then Noted sid true ∷ [] else []
 
 -- what is noted where these messages are handed over
 abbrev pub availability_notes : Option Sid → List Sent → List Entry

@@ -1,7 +1,7 @@
 -- What is asked after each answer, and what is written (IEEE 488.2, 6.3, 8.4 and 10.7; SCPI-1999, 21.8).
 use Rattle.std.specs.Prelude.{◌≡◌, ℕ, ◌+◌, ◌^◌, ◌≤◌, ◌⊎◌, ◌==◌, Bool, true, false, nat_lt, nat_le, ◌&&◌, MatchBool}
 use Rattle.std.specs.Prelude.{List, []}
-use Rattle.std.specs.Prelude.{◌∷◌, ◌++◌, Some, None, Result, Ok, Err, length, take, if◌then◌else◌}
+use Rattle.std.specs.Prelude.{◌∷◌, ◌++◌, Option, Some, None, Result, Ok, Err, length, take, if◌then◌else◌}
 use Rattle.sw_base.specs.Limits.{most_bytes, most_answer_bytes}
 use Rattle.sw_base.specs.declared.error.ScpiError.{ScpiError}
 use Rattle.sw_base.specs.declared.error.ScpiError.TheVariants.{SettingsConflict, OutOfMemory, InputBufferOverrun}
@@ -12,11 +12,13 @@ use Rattle.sw_lex.specs.declared.command.Plain.{Plain}
 use Rattle.sw_lex.specs.Unit.{UnitSeen}
 use Rattle.sw_lex.specs.Meaning.{Nodes, Resolves}
 use Rattle.sw_macro.specs.Table.{Table}
+use Rattle.sw_trigger.specs.Counts.{readings_of}
 use Rattle.sw_macro.specs.Expansion.{calls, Expands}
 use Rattle.sw_verify.specs.declared.refusal.Refusal.{Refusal}
 use Rattle.sw_verify.specs.Check.{IsReady, IsRefusedScan, error_of}
 use Rattle.sw_core.specs.Action.{Effect, IsOfMacros, Initiates, Resets, ReadsOut, Action, AtOnce, BetweenScans, AfterScan}
 use Rattle.sw_core.specs.Action.{action_of}
+use Rattle.sw_core.specs.Event.{next_number}
 use Rattle.sw_core.specs.declared.ask.Sid.{Sid}
 use Rattle.sw_core.specs.declared.ask.SessionAsk.{SessionAsk}
 use Rattle.sw_core.specs.declared.ask.SessionAsk.TheVariants as Ask
@@ -89,7 +91,7 @@ Settles sid turn ask trace final rest = ⊥
 -- What comes of a snapshot: the scan of one that is ready is asked to start, else the first refusal is queued; where
 -- there is no memory for the plan of one that is ready, -225 is. Any other answer is the unit's.
 abbrev pub Plans : Sid → SessionAnswer → List Entry → SessionAnswer → List Entry → Type 0
-Plans sid (Answer.Snapshot s) trace final rest =
+Plans sid (Answer.Snapshot s number) trace final rest =
     (IsReady s × Settles sid 0 (Ask.Start sid s) trace final rest)
     ⊎ ((r : Refusal) × IsRefusedScan r s × Queues sid (error_of r) trace final rest)
 Plans sid told trace final rest = (final ≡ told) × (rest ≡ trace)
@@ -99,6 +101,30 @@ abbrev pub StartsScan : Sid → List Entry → SessionAnswer → List Entry → 
 StartsScan sid trace final rest =
     (told : SessionAnswer) × (mid : List Entry)
     × Settles sid 0 (Ask.Snapshot sid) trace told mid × Plans sid told mid final rest
+
+-- the number of the scan that the plan of a snapshot begins, and how many readings it makes
+abbrev pub due_of : SessionAnswer → Option (ℕ × ℕ)
+due_of (Answer.Snapshot s number) = Some (next_number number, readings_of s.settings)
+due_of told = None
+
+-- What comes of READ? once the scan was asked to start: where that is done, the readings of the scan with this number
+-- are asked for, all that its plan makes. Any other answer is the unit's.
+abbrev pub ReadsBack : Sid → Bool → Option (ℕ × ℕ) → SessionAnswer → List Entry → SessionAnswer → List Entry → Type 0
+ReadsBack sid answered (Some due) (Done text) trace final rest =
+    Settles sid 0 (Ask.Unit sid (Command.ScanReadings due.0 due.1) answered) trace final rest
+ReadsBack sid answered due started trace final rest = (final ≡ started) × (rest ≡ trace)
+
+-- READ? (SCPI-1999, volume 2, 3): a scan is started as INITiate starts it, and its readings are told when it is over
+abbrev pub ReadsScan : Sid → Bool → List Entry → SessionAnswer → List Entry → Type 0
+ReadsScan sid answered trace final rest =
+    (told : SessionAnswer) × (started : SessionAnswer) × (mid : List Entry) × (later : List Entry)
+    × Settles sid 0 (Ask.Snapshot sid) trace told mid × Plans sid told mid started later
+    × ReadsBack sid answered (due_of told) started later final rest
+
+-- a command that begins a scan: READ?, else INITiate
+abbrev pub BeginsScan : Command → Sid → Bool → List Entry → SessionAnswer → List Entry → Type 0
+BeginsScan (Command.Plain Plain.Read) sid answered trace final rest = ReadsScan sid answered trace final rest
+BeginsScan command sid answered trace final rest = StartsScan sid trace final rest
 
 abbrev pub is_done : SessionAnswer → Bool
 is_done (Done text) = true
@@ -127,9 +153,11 @@ effect_of (AtOnce effect) = effect
 effect_of (BetweenScans effect) = effect
 effect_of (AfterScan effect) = effect
 
--- whether a session carries a command out by itself: one of macros, INITiate, or *RST, which switches macros off
+-- whether a session carries a command out by itself: one of macros, INITiate, READ?, or *RST, which switches macros
+-- off
 abbrev pub is_own : Command → Bool
 is_own (Command.Plain Plain.Initiate) = true
+is_own (Command.Plain Plain.Read) = true
 is_own (Command.Plain Plain.Reset) = true
 is_own (Command.Macros ask) = true
 is_own (Command.Macro ask) = true
@@ -140,13 +168,14 @@ abbrev pub reads_out : Command → Bool
 reads_out (Command.ReadOut read) = true
 reads_out command = false
 
--- A command by what it does: a macro command changes the macros and asks nothing else, INITiate starts a scan, and any
--- other is asked. One that reads out what is then gone isn't asked where there is no memory for its answer, and -225 is
--- queued.
+-- A command by what it does: a macro command changes the macros and asks nothing else, INITiate and READ? start a scan,
+-- and any other is asked. One that reads out what is then gone isn't asked where there is no memory for its answer,
+-- and -225 is queued.
 abbrev pub BeginsBy : Effect → Sid → Bool → Command → Table → List Entry → Begun → Type 0
 BeginsBy IsOfMacros sid answered command t trace b =
     (told : Told) × ActsOnMacros command t told b.macros × Reports sid told trace b.answer b.rest
-BeginsBy Initiates sid answered command t trace b = StartsScan sid trace b.answer b.rest × (b.macros ≡ t)
+BeginsBy Initiates sid answered command t trace b =
+    BeginsScan command sid answered trace b.answer b.rest × (b.macros ≡ t)
 BeginsBy Resets sid answered command t trace b =
     Settles sid 0 (Ask.Unit sid command answered) trace b.answer b.rest × (b.macros ≡ table_reset b.answer t)
 BeginsBy (ReadsOut text after) sid answered command t trace b =

@@ -6,6 +6,7 @@ ghost use Rattle.sw_core.specs.declared.ask.SessionAsk.TheVariants.{Unit};
 ghost use Rattle.sw_core.specs.declared.ask.SessionAnswer.TheVariants.{Hold};
 ghost use Rattle.sw_session.specs.Trace.{Led, Asked};
 ghost use Rattle.sw_session.specs.Talk.{Queues, Settles, Begins, begun_with, Reports, StartsScan, Plans, table_reset};
+ghost use Rattle.sw_session.specs.Talk.{ReadsScan, ReadsBack, due_of};
 ghost use Rattle.sw_session.specs.Talk.{is_done, is_own, reads_out, after_queueing};
 
 use crate::desk::{Desk, Wake};
@@ -39,12 +40,13 @@ pub fn ask_command<D: Desk>(
     settle_unit(desk, sid, command, answered, answer);
 }
 
-/// Whether a command is the session's own: of macros, the beginning of a scan, or the reset, which switches macros off.
+/// Whether a command is the session's own: of macros, the beginning of a scan, its readings behind it or not, or the
+/// reset, which switches macros off.
 pub fn is_own(command: &Command) -> bool
     ensures { result ≡ is_own command.now }
 {
     match command {
-        Command::Plain(Plain::Initiate | Plain::Reset) => true,
+        Command::Plain(Plain::Initiate | Plain::Read | Plain::Reset) => true,
         Command::Macros(_) | Command::Macro(_) => true,
         _ => false,
     }
@@ -84,7 +86,7 @@ pub fn carry_own<D: Desk>(
     }
 }
 
-/// Begins a scan, or resets: what a session carries out of the commands without data.
+/// Begins a scan, reads it or not, or resets: what a session carries out of the commands without data.
 fn carry_plain<D: Desk>(
     desk: &mut D,
     sid: Sid,
@@ -99,6 +101,7 @@ fn carry_plain<D: Desk>(
 {
     match plain {
         Plain::Initiate => initiate(desk, sid, alloc),
+        Plain::Read => read(desk, sid, alloc, answered),
         Plain::Reset => reset(desk, sid, macros, answered),
         _ => unreachable!(),
     }
@@ -145,12 +148,57 @@ fn initiate<D: Desk>(desk: &mut D, sid: Sid, alloc: Global) -> SessionAnswer
     plan(desk, sid, alloc, told)
 }
 
+/// Begins a scan as `initiate` does, and asks for its readings.
+#[inline(never)]
+fn read<D: Desk>(desk: &mut D, sid: Sid, alloc: Global, answered: bool) -> SessionAnswer
+    ensures { Led D.passes desk.old desk.new (λ t rest. ReadsScan sid answered t result rest) }
+{
+    let offered = settle(desk, sid, SessionAsk::Snapshot(sid));
+    let due = due_of(&offered);
+    let started = plan(desk, sid, alloc, offered);
+    read_back(desk, sid, answered, due, started)
+}
+
+/// The number of the scan that the plan of a snapshot begins, and how many readings it makes.
+fn due_of(told: &SessionAnswer) -> Option<(u64, u64)>
+    ensures { result ≡ due_of told.now }
+{
+    match told {
+        SessionAnswer::Snapshot(snapshot, number) => {
+            Some((number.saturating_add(1), snapshot.get().settings.readings()))
+        }
+        _ => None,
+    }
+}
+
+/// Asks for the readings of a scan that was started. Any other answer stands.
+fn read_back<D: Desk>(
+    desk: &mut D,
+    sid: Sid,
+    answered: bool,
+    due: Option<(u64, u64)>,
+    started: SessionAnswer,
+) -> SessionAnswer
+    ensures { Led D.passes desk.old desk.new (λ t rest. ReadsBack sid answered due started t result rest) }
+{
+    match due {
+        Some((number, count)) => match started {
+            SessionAnswer::Done(_) => {
+                let command = Command::ScanReadings(number, count);
+                settle(desk, sid, SessionAsk::Unit(sid, command, answered))
+            }
+            started => started,
+        },
+        None => started,
+    }
+}
+
 /// Makes the plan of a snapshot and asks to start it, or queues why there is none. Any other answer stands.
 fn plan<D: Desk>(desk: &mut D, sid: Sid, alloc: Global, told: SessionAnswer) -> SessionAnswer
     ensures { Led D.passes desk.old desk.new (λ t rest. Plans sid told t result rest) }
 {
     match told {
-        SessionAnswer::Snapshot(snapshot) => match Plan::make(alloc, snapshot) {
+        SessionAnswer::Snapshot(snapshot, _) => match Plan::make(alloc, snapshot) {
             Ok(plan) => settle(desk, sid, SessionAsk::Start(sid, plan)),
             Err(refusal) => queue(desk, sid, refusal.error()),
         },

@@ -1,9 +1,10 @@
 //! The line of answers, kept as a finished line.
 
-ghost use Rattle.std.specs.Prelude.{◌≡◌, ◌+◌, ◌<◌, ◌≤◌, ℤ, nat_lt, length, decimal, OnOk, OnErr};
+ghost use Rattle.std.specs.Prelude.{◌≡◌, ◌+◌, ◌<◌, ◌≤◌, ℤ, nat_lt, length, decimal, map, OnOk, OnErr};
+ghost use Rattle.std.specs.List.{join_with_byte};
 ghost use Rattle.std.specs.Vec.{vec_capacity};
 ghost use Rattle.sw_base.specs.Limits.{most_answer_bytes};
-ghost use Rattle.sw_base.specs.Reading.{fixed};
+ghost use Rattle.sw_base.specs.Reading.{fixed, reading_text};
 ghost use Rattle.sw_core.specs.Answers.{entry, entry_told};
 ghost use Rattle.sw_session.specs.Talk.{JoinsLine, opened};
 
@@ -11,7 +12,7 @@ use std::alloc::AllocError;
 use sw_base::{
     ANSWER_BYTES, NO_ERROR, ScpiError, Sequence, print_micros, print_number, print_signed,
 };
-use sw_core::{AnswerForm, AnswerText};
+use sw_core::{AnswerForm, AnswerText, ReadingsText};
 
 /// For how many bytes a line takes memory at least.
 const ROOM: usize = 64;
@@ -37,6 +38,7 @@ pub fn join(out: &mut Vec<u8>, text: AnswerText) -> Result<(), AllocError>
         AnswerForm::Fixed(text) => add(out, text),
         AnswerForm::Entry(error) => join_entry(out, error),
         AnswerForm::Bytes(text) => join_bytes(out, text),
+        AnswerForm::Readings(readings) => join_readings(out, readings),
     }
 }
 
@@ -109,6 +111,18 @@ fn join_bytes(out: &mut Vec<u8>, text: Sequence<u8>) -> Result<(), AllocError>
     line.push(b'\n').unwrap();
     *out = line;
     Ok(())
+}
+
+/// Adds readings to the answers that are written. What has no room is not printed.
+#[inline(never)]
+fn join_readings(out: &mut Vec<u8>, readings: ReadingsText) -> Result<(), AllocError>
+    ensures ok { OnOk result (JoinsLine out.old.items (join_with_byte 44 (map reading_text readings)) out.new.items) }
+    ensures err { OnErr result (out.new.items ≡ out.old.items) }
+{
+    if !has_room(out, readings.length()) {
+        return Err(AllocError);
+    }
+    join_bytes(out, readings.text()?)
 }
 
 /// Whether there is room for one more answer of so many bytes beside those that are written, with the byte that goes

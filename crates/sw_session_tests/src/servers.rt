@@ -245,11 +245,12 @@ pub fn is_served(
     is_so
 }
 
-/// Whether the talk is answered whole when it comes in such pieces.
+/// Whether the talk is answered whole when it comes in such pieces. That a message is available is noted for each of the
+/// answer's two parts.
 fn is_whole_talk(alloc: Global, first: usize, rest: usize) -> bool {
     let mut reader = Pieces::new(TALK, first, rest);
     let served = serve(alloc, Channel::Synchronous, &mut reader, 1000);
-    served.notes == 1 && is_served(served, Ok(()), SAID, SAID_BESIDE, 1)
+    served.notes == 2 && is_served(served, Ok(()), SAID, SAID_BESIDE, 1)
 }
 
 #[test]
@@ -333,8 +334,8 @@ fn time_limits_and_interrupts_are_no_faults(rt: HostRuntime) {
 }
 
 /// Whether a writer that fails after so many bytes has the front of the answer, and the session leaves. That a message
-/// is available is noted where its last part is handed to the writer, before it is written, and not where a part before
-/// it fails.
+/// is available is noted where each of its two parts is handed to the writer, before it is written, and not where what
+/// comes before the part fails.
 fn stops_writing(alloc: Global, room: usize) -> bool {
     let mut reader = Pieces::new(TALK, 512, 512);
     let mut main = Narrow {
@@ -354,7 +355,11 @@ fn stops_writing(alloc: Global, room: usize) -> bool {
     );
     let (notes, leaves) = (desk.notes, desk.leaves);
     drop(desk);
-    let noted = if room < 43 { 0 } else { 1 };
+    let noted = match room {
+        0..16 => 0,
+        16..43 => 1,
+        _ => 2,
+    };
     let served = Served {
         result,
         main: main.bytes,

@@ -257,6 +257,10 @@ fn is_written(form: AnswerForm, text: &[u8]) -> bool {
         }
         AnswerForm::Fixed(words) => words == text,
         AnswerForm::Entry(error) => is_entry(error, text),
+        AnswerForm::Readings(readings) => match readings.text() {
+            Ok(printed) => printed.as_slice() == text,
+            Err(_) => false,
+        },
     }
 }
 

@@ -22,15 +22,21 @@ mod layers;
 #[cfg(test)]
 mod lists;
 #[cfg(test)]
+mod longest;
+#[cfg(test)]
 mod positions;
 #[cfg(test)]
 mod queries;
+#[cfg(test)]
+mod reads;
 #[cfg(test)]
 mod recorded;
 #[cfg(test)]
 mod scans;
 #[cfg(test)]
 mod session;
+#[cfg(test)]
+mod settling;
 #[cfg(test)]
 mod several;
 #[cfg(test)]

@@ -1,18 +1,21 @@
 //! Every query of a core, answered with ample memory: a contract lets each of them tell of a want of memory.
 
-use crate::asks::{does, fit, unit};
+use crate::asks::{answer_of, does, eject, fit, take, unit, was_refused};
 use crate::boxes::{three, voltmeter};
-use crate::scans::{carry_out, initiate};
+use crate::scans::{carry_out, done, initiate};
 use std::alloc::Global;
 use std::test::Fail;
+use sw_base::ScpiError;
 use sw_card::{Meter, Relay};
-use sw_core::{Core, SessionAnswer, Sid};
+use sw_core::{Core, SessionAnswer, SessionAsk, Sid, Work};
+use sw_lex::Command;
 
 /// Queries of relays and settings.
-const SETTINGS: [&[u8]; 20] = [
+const SETTINGS: [&[u8]; 21] = [
     b"ROUT:CLOS? (@1!1)",
     b"ROUT:OPEN? (@1!1,2!1)",
     b"ROUT:CLOS:STAT?",
+    b"ROUT:CHAN:DEL?",
     b"ROUT:SCAN?",
     b"ROUT:SCAN:MET?",
     b"ARM:COUN?",
@@ -33,7 +36,7 @@ const SETTINGS: [&[u8]; 20] = [
 ];
 
 /// Queries of status, errors and the instrument.
-const STATUS: [&[u8]; 21] = [
+const STATUS: [&[u8]; 22] = [
     b"*IDN?",
     b"*TST?",
     b"*STB?",
@@ -53,6 +56,7 @@ const STATUS: [&[u8]; 21] = [
     b"SYST:ERR?",
     b"SYST:ERR:ALL?",
     b"SYST:ERR:COUN?",
+    b"SYST:HELP:HEAD?",
     b"SYST:VERS?",
     b"SYST:ERR:NEXT?",
 ];
@@ -120,5 +124,136 @@ fn no_query_lacks_memory(rt: HostRuntime) -> Result<(), Fail> {
     let cards = three(rt.alloc())?;
     let meter = voltmeter(rt.alloc())?;
     assert!(rt; tells_all(rt.alloc(), cards, meter));
+    Ok(())
+}
+
+/// What is answered where the readings of the scan with this number are asked for, so many of them.
+fn readings<R: Relay, M: Meter>(
+    alloc: Global,
+    core: &mut Core<R, M>,
+    sid: Sid,
+    number: u64,
+    count: u64,
+) -> Option<SessionAnswer> {
+    let command = Command::ScanReadings(number, count);
+    answer_of(alloc, core, SessionAsk::Unit(sid, command, false))
+}
+
+/// Whether they are told.
+fn has_readings<R: Relay, M: Meter>(
+    alloc: Global,
+    core: &mut Core<R, M>,
+    sid: Sid,
+    number: u64,
+    count: u64,
+) -> bool {
+    let answer = readings(alloc, core, sid, number, count);
+    let is_so = is_text(&answer);
+    drop(answer);
+    is_so
+}
+
+/// Whether they are stale.
+fn lacks_readings<R: Relay, M: Meter>(
+    alloc: Global,
+    core: &mut Core<R, M>,
+    sid: Sid,
+    number: u64,
+    count: u64,
+) -> bool {
+    let answer = readings(alloc, core, sid, number, count);
+    was_refused(answer, ScpiError::DataCorruptOrStale)
+}
+
+/// Whether of two scans the last one's readings are told alone, until a reset drops them.
+fn tells_last_readings<R: Relay, M: Meter>(alloc: Global, core: &mut Core<R, M>, sid: Sid) -> bool {
+    reads_once(alloc, core, sid)
+        && has_readings(alloc, core, sid, 1, 1)
+        && lacks_readings(alloc, core, sid, 0, 1)
+        && lacks_readings(alloc, core, sid, 2, 1)
+        && lacks_readings(alloc, core, sid, 1, 2)
+        && reads_once(alloc, core, sid)
+        && lacks_readings(alloc, core, sid, 1, 1)
+        && has_readings(alloc, core, sid, 2, 1)
+        && does(alloc, core, sid, b"*RST")
+        && lacks_readings(alloc, core, sid, 2, 1)
+}
+
+/// Whether a mainframe of these cards does so.
+fn keeps_scans_apart<R: Relay, M: Meter>(alloc: Global, cards: (R, R, R), meter: M) -> bool {
+    let Ok(mut core) = Core::new(alloc) else {
+        return false;
+    };
+    let is_so = match fit(alloc, &mut core, cards, meter) {
+        Some(sid) => tells_last_readings(alloc, &mut core, sid),
+        None => false,
+    };
+    drop(core);
+    is_so
+}
+
+#[test]
+fn readings_are_those_of_one_scan(rt: HostRuntime) -> Result<(), Fail> {
+    let cards = three(rt.alloc())?;
+    let meter = voltmeter(rt.alloc())?;
+    assert!(rt; keeps_scans_apart(rt.alloc(), cards, meter));
+    Ok(())
+}
+
+/// What is awaited once this piece of work is done.
+fn next_of<R: Relay, M: Meter>(
+    alloc: Global,
+    core: &mut Core<R, M>,
+    work: Option<Work<M>>,
+) -> Option<Work<M>> {
+    match work {
+        Some(work) => match take(alloc, core, done(work)) {
+            Ok(next) => next,
+            Err(_) => None,
+        },
+        None => None,
+    }
+}
+
+/// Whether the slot's card comes out.
+fn comes_out<R: Relay, M: Meter>(alloc: Global, core: &mut Core<R, M>, slot: u8) -> bool {
+    let card = eject(alloc, core, slot);
+    let is_so = card.is_some();
+    drop(card);
+    is_so
+}
+
+/// Whether an eject after the first of two readings leaves a scan that has not all of its own.
+fn lacks_ejected<R: Relay, M: Meter>(alloc: Global, core: &mut Core<R, M>, sid: Sid) -> bool {
+    let is_set = does(alloc, core, sid, b"ROUT:SCAN (@1!1)")
+        && does(alloc, core, sid, b"TRIG:COUN 2");
+    let first = initiate(alloc, core, sid);
+    let second = next_of(alloc, core, first);
+    let is_out = second.is_some() && comes_out(alloc, core, 1);
+    drop(second);
+    is_set
+        && is_out
+        && lacks_readings(alloc, core, sid, 1, 2)
+        && has_readings(alloc, core, sid, 1, 1)
+}
+
+/// Whether a mainframe of these cards does so.
+fn ejects_from_a_scan<R: Relay, M: Meter>(alloc: Global, cards: (R, R, R), meter: M) -> bool {
+    let Ok(mut core) = Core::new(alloc) else {
+        return false;
+    };
+    let is_so = match fit(alloc, &mut core, cards, meter) {
+        Some(sid) => lacks_ejected(alloc, &mut core, sid),
+        None => false,
+    };
+    drop(core);
+    is_so
+}
+
+#[test]
+fn an_eject_leaves_readings_that_are_not_all(rt: HostRuntime) -> Result<(), Fail> {
+    let cards = three(rt.alloc())?;
+    let meter = voltmeter(rt.alloc())?;
+    assert!(rt; ejects_from_a_scan(rt.alloc(), cards, meter));
     Ok(())
 }

@@ -17,7 +17,7 @@ use sw_verify::Plan;
 /// The plan of the scan that may begin.
 fn planned(alloc: Global, answer: Option<SessionAnswer>) -> Option<Plan> {
     match answer {
-        Some(SessionAnswer::Snapshot(snapshot)) => match Plan::make(alloc, snapshot) {
+        Some(SessionAnswer::Snapshot(snapshot, _)) => match Plan::make(alloc, snapshot) {
             Ok(plan) => Some(plan),
             Err(_) => None,
         },

@@ -32,6 +32,8 @@ struct Canned {
     snapshot: Option<BoxedSnapshot>,
     /// How many scans were started.
     started: u32,
+    /// The number of the scan whose readings were asked for last, and how many they were to be.
+    due: (u64, u64),
 }
 
 impl Canned {
@@ -45,12 +47,17 @@ impl Canned {
             answered: false,
             snapshot: None,
             started: 0,
+            due: (0, 0),
         }
     }
 
     fn unit(&mut self, command: Command, answered: bool) -> Result<Sequence<u8>, ScpiError> {
         self.answered = answered;
-        let is_known = asks_identity(&command);
+        let due = asked_readings(&command);
+        if let Some(due) = due {
+            self.due = due;
+        }
+        let is_known = due.is_some() || asks_identity(&command);
         drop(command);
         if !is_known {
             return Err(ScpiError::HardwareMissing);
@@ -62,6 +69,14 @@ impl Canned {
 
 fn asks_identity(command: &Command) -> bool {
     matches!(command, Command::Query(PlainQuery::Identify))
+}
+
+/// The number of the scan whose readings are asked for, and how many.
+fn asked_readings(command: &Command) -> Option<(u64, u64)> {
+    match command {
+        Command::ScanReadings(number, count) => Some((*number, *count)),
+        _ => None,
+    }
 }
 
 impl Desk for Canned {
@@ -84,7 +99,7 @@ impl Desk for Canned {
                 SessionAnswer::Done(None)
             }
             SessionAsk::Snapshot(_) => match self.snapshot.take() {
-                Some(snapshot) => SessionAnswer::Snapshot(snapshot),
+                Some(snapshot) => SessionAnswer::Snapshot(snapshot, 6),
                 None => SessionAnswer::Refused(ScpiError::InitIgnored),
             },
             SessionAsk::Start(_, plan) => {
@@ -255,6 +270,35 @@ fn starts_the_scan_of_a_snapshot(rt: HostRuntime) -> Result<(), Fail> {
     offered
 }
 
+#[test]
+fn reads_the_scan_that_it_began(rt: HostRuntime) -> Result<(), Fail> {
+    let mut desk = Canned::new(rt.alloc(), 2, 2);
+    let offered = offer(rt.alloc(), &mut desk, &[Chan::new(1, 1)]);
+    assert!(rt; answers(rt.alloc(), &mut desk, b"READ?", IDENTITY));
+    assert_eq!(rt; desk.started, 1);
+    assert!(rt; desk.due == (7, 1) && desk.faults.is_empty());
+    drop(desk);
+    offered
+}
+
+/// Scans that are asked to be read, of no channel, and where the snapshot is refused.
+fn read_nothing(rt: &impl Abort, alloc: Global, desk: &mut Canned) -> Result<(), Fail> {
+    offer(alloc, desk, &[])?;
+    assert!(rt; answers(alloc, desk, b"READ?;*IDN?", IDENTITY));
+    assert!(rt; answers(alloc, desk, b"READ?", b""));
+    assert!(rt; has_faults(desk, &[-221]));
+    assert!(rt; desk.started == 0 && desk.due == (0, 0));
+    Ok(())
+}
+
+#[test]
+fn reads_nothing_of_a_scan_that_may_not_begin(rt: HostRuntime) -> Result<(), Fail> {
+    let mut desk = Canned::new(rt.alloc(), 0, 0);
+    let result = read_nothing(&rt, rt.alloc(), &mut desk);
+    drop(desk);
+    result
+}
+
 /// A scan of no channel, and one of a channel that the cage lacks.
 fn begin_nothing(rt: &impl Abort, alloc: Global, desk: &mut Canned) -> Result<(), Fail> {
     offer(alloc, desk, &[])?;
@@ -311,7 +355,7 @@ fn a_label_of_one_session_is_none_of_another(rt: HostRuntime) {
     drop(desk);
 }
 
-type Bench = CoreDesk<Mux<SimDriver>, Volt<SimSource>>;
+pub type Bench = CoreDesk<Mux<SimDriver>, Volt<SimSource>>;
 
 /// Puts four channels into slot 1 and a meter into slot 4, and joins as a session.
 fn fit_bench(alloc: Global, core: &mut Core<Mux<SimDriver>, Volt<SimSource>>) -> Option<Sid> {
@@ -326,7 +370,7 @@ fn fit_bench(alloc: Global, core: &mut Core<Mux<SimDriver>, Volt<SimSource>>) ->
 }
 
 /// A desk over such a mainframe, and a session.
-fn bench(alloc: Global) -> Option<(Bench, Sid)> {
+pub fn bench(alloc: Global) -> Option<(Bench, Sid)> {
     let Ok(mut core) = Core::new(alloc) else {
         return None;
     };
@@ -381,7 +425,7 @@ fn shows<D: Desk>(desk: &mut D, sid: Sid, mav: bool) -> bool {
 }
 
 /// The session that joins by the desk.
-fn joins<D: Desk>(desk: &mut D) -> Option<Sid> {
+pub fn joins<D: Desk>(desk: &mut D) -> Option<Sid> {
     match desk.ask(SessionAsk::Join) {
         SessionAnswer::Joined(sid) => Some(sid),
         other => {

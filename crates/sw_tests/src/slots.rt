@@ -130,7 +130,7 @@ fn plans_none<R: Relay, M: Meter>(
     why: Refusal,
 ) -> bool {
     match snapshot(alloc, core, sid) {
-        Some(SessionAnswer::Snapshot(snapshot)) => match Plan::make(alloc, snapshot) {
+        Some(SessionAnswer::Snapshot(snapshot, _)) => match Plan::make(alloc, snapshot) {
             Ok(plan) => {
                 drop(plan);
                 false

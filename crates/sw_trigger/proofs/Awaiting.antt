@@ -17,7 +17,8 @@ use Rattle.sw_trigger.specs.declared.layer.Awaited.TheVariants.{Pause, Read}
 use Rattle.sw_trigger.specs.Settings.{SettingsSeen, NamedLayer, arms_of}
 use Rattle.sw_trigger.specs.Agenda.{Item, Awaits, Close, Open, repeated, head_of, passes, pass_of, visit, position_at, turns_of, agenda, wait_by, wait_of}
 use Rattle.sw_trigger.specs.Agenda.{pause_of}
-use Rattle.sw_trigger.specs.Counts.{awaiting, reads, in_turns, in_arms, in_scan, times, most_awaited, most_read}
+use Rattle.sw_trigger.specs.Counts.{awaiting, reads, in_turns, in_arms, in_visit, in_scan, times, most_awaited, most_read}
+use Rattle.sw_channel.specs.Positions.{Position}
 use Rattle.sw_trigger.proofs.Repeats.{length-repeated, get-repeated, get-append_left, get-append_right}
 
 pub awaiting-append : (xs ys : List Item) → awaiting (xs ++ ys) ≡ awaiting xs ++ awaiting ys
@@ -37,12 +38,16 @@ awaiting-repeated (suc n) xs = awaiting-append xs (repeated n xs) ∙ ap (λ l. 
 pub awaiting-after_head : (h : List Awaited) (xs : List Item) → awaiting (map Awaits h ++ xs) ≡ h ++ awaiting xs
 awaiting-after_head h xs = awaiting-append (map Awaits h) xs ∙ ap (λ l. l ++ awaiting xs) (awaiting-awaits h)
 
-pub awaiting-passes : (s : SettingsSeen) (k n : ℕ) → awaiting (passes s k n) ≡ repeated n (head_of Trigger s.trigger ++ Read ∷ [])
+pub awaiting-visit : (settle : ℕ) (p : Position) → awaiting (visit settle p) ≡ in_visit settle
+awaiting-visit settle p = awaiting-after_head (pause_of settle) (Awaits Read ∷ Open p ∷ [])
+
+pub awaiting-passes : (s : SettingsSeen) (k n : ℕ) → awaiting (passes s k n) ≡ repeated n (head_of Trigger s.trigger ++ in_visit s.settle_us)
 awaiting-passes s k zero = refl
 awaiting-passes s k (suc n) =
     awaiting-append (pass_of s k) (passes s (suc k) n)
-    ∙ ap (λ l. l ++ awaiting (passes s (suc k) n)) (awaiting-after_head (head_of Trigger s.trigger) (visit (position_at s.list k)))
-    ∙ ap (λ l. (head_of Trigger s.trigger ++ Read ∷ []) ++ l) (awaiting-passes s (suc k) n)
+    ∙ ap (λ l. l ++ awaiting (passes s (suc k) n)) (awaiting-after_head (head_of Trigger s.trigger) (visit s.settle_us (position_at s.list k))
+    ∙ ap (λ l. head_of Trigger s.trigger ++ l) (awaiting-visit s.settle_us (position_at s.list k)))
+    ∙ ap (λ l. (head_of Trigger s.trigger ++ in_visit s.settle_us) ++ l) (awaiting-passes s (suc k) n)
 
 pub awaiting-turns : (arms : List NamedLayer) (inside : List Item) → awaiting (turns_of arms inside) ≡ in_arms arms (awaiting inside)
 awaiting-turns [] inside = refl
@@ -95,14 +100,18 @@ reads-head name l =
     ap reads (map-append Awaits (wait_of name l) (pause_of l.delay_us))
     ∙ omega (arith, reads-append (map Awaits (wait_of name l)) (map Awaits (pause_of l.delay_us)), reads-wait name l.source l.timer_us, reads-pause l.delay_us)
 
+pub reads-visit : (settle : ℕ) (p : Position) → reads (visit settle p) ≡ 1
+reads-visit settle p = omega (arith, reads-append (map Awaits (pause_of settle)) (Awaits Read ∷ Open p ∷ []), reads-pause settle)
+
 pub reads-passes : (s : SettingsSeen) (k n : ℕ) → reads (passes s k n) ≡ n
 reads-passes s k zero = refl
 reads-passes s k (suc n) =
     omega (
       arith,
       reads-append (pass_of s k) (passes s (suc k) n),
-      reads-append (map Awaits (head_of Trigger s.trigger)) (visit (position_at s.list k)),
+      reads-append (map Awaits (head_of Trigger s.trigger)) (visit s.settle_us (position_at s.list k)),
       reads-head Trigger s.trigger,
+      reads-visit s.settle_us (position_at s.list k),
       reads-passes s (suc k) n,
     )
 
@@ -173,12 +182,20 @@ turned count head inside c some small same fits =
 pub product_most : (a b m n : ℕ) → a ≤ m → b ≤ n → a * b ≤ m * n
 product_most a b m n h k = le_trans (mul-le-mul_left a k) (mul-le-mul_right n h)
 
--- fewer layers await and read no more
-fewer_await : (m n : ℕ) → n ≤ m → most_awaited n ≤ most_awaited m
-fewer_await zero zero h = omega arith
-fewer_await zero (suc n) h = absurd (omega arith)
-fewer_await (suc m) zero h = omega (arith, fewer_await m zero (omega arith))
-fewer_await (suc m) (suc n) h = omega (arith, fewer_await m n (omega arith))
+-- what is awaited of a position that is closed
+length-cond_visit : (b : Bool) (micros : ℕ) → length (cond b [] (Pause micros ∷ []) ++ Read ∷ []) ≤ 2
+length-cond_visit true micros = omega arith
+length-cond_visit false micros = omega arith
+
+pub length-visit : (settle : ℕ) → length (in_visit settle) ≤ 2
+length-visit settle = length-cond_visit (eqb settle 0) settle
+
+-- fewer layers, and shorter visits, await and read no more
+fewer_await : (v w m n : ℕ) → v ≤ w → n ≤ m → most_awaited v n ≤ most_awaited w m
+fewer_await v w zero zero g h = omega arith
+fewer_await v w zero (suc n) g h = absurd (omega arith)
+fewer_await v w (suc m) zero g h = omega (arith, fewer_await v w m zero g (omega arith))
+fewer_await v w (suc m) (suc n) g h = omega (arith, fewer_await v w m n g (omega arith))
 
 fewer_read : (m n : ℕ) → n ≤ m → most_read n ≤ most_read m
 fewer_read zero zero h = omega arith
@@ -191,15 +208,18 @@ abbrev inner_layers : ℕ
 inner_layers = most_arm_layers - 1
 
 -- the turns of a layer more fit into a number of the code, and so does what they read
-pub fits_awaited : (n inside count : ℕ) → suc n ≤ most_arm_layers → inside ≤ most_awaited n → count ≤ most_arm_count
+pub fits_awaited : (settle n inside count : ℕ) → suc n ≤ most_arm_layers → inside ≤ most_awaited (length (in_visit settle)) n → count ≤ most_arm_count
     → (2 + inside) * count < 18446744073709551616
-fits_awaited n inside count few h k =
-    let b = fewer_await inner_layers n (omega arith) in
-    let p = product_most (2 + inside) count (2 + most_awaited inner_layers) most_arm_count (omega (arith, h, b)) k in
+fits_awaited settle n inside count few h k =
+    let b = fewer_await (length (in_visit settle)) 2 inner_layers n (length-visit settle) (omega arith) in
+    let p = product_most (2 + inside) count (2 + most_awaited 2 inner_layers) most_arm_count (omega (arith, h, b)) k in
     omega (arith, p)
 
-pub fits_turn : (n inside : ℕ) → suc n ≤ most_arm_layers → inside ≤ most_awaited n → 2 + inside < 18446744073709551616
-fits_turn n inside few h = let b = fewer_await inner_layers n (omega arith) in omega (arith, h, b)
+pub fits_turn : (settle n inside : ℕ) → suc n ≤ most_arm_layers → inside ≤ most_awaited (length (in_visit settle)) n
+    → 2 + inside < 18446744073709551616
+fits_turn settle n inside few h =
+    let b = fewer_await (length (in_visit settle)) 2 inner_layers n (length-visit settle) (omega arith) in
+    omega (arith, h, b)
 
 pub fits_read : (n inside count : ℕ) → suc n ≤ most_arm_layers → inside ≤ most_read n → count ≤ most_arm_count
     → count * inside < 18446744073709551616

@@ -1,5 +1,5 @@
 -- Settings in their ranges: what is so of each layer, how it stays so, and that a scan of what is listed awaits something.
-use Rattle.std.proofs.Common.{◌≡◌, ◌≢◌, ℕ, zero, suc, ◌-◌, ◌<◌, ◌≤◌, ◌*◌, ◌+◌, List, [], ◌∷◌, length, replicate, refl, sym, ap, ◌∙◌, subst, arith, ⊎_elim}
+use Rattle.std.proofs.Common.{◌≡◌, ◌≢◌, ℕ, zero, suc, ◌-◌, ◌<◌, ◌≤◌, ◌*◌, ◌+◌, List, [], ◌∷◌, length, replicate, refl, sym, ap, ◌∙◌, subst, arith, ⊎_elim, length-append}
 use Rattle.std.specs.Prelude.{slice_index_or, slice_set}
 use Rattle.std.proofs.lemmas.List.{get_or-set_same, get_or-set_other, length-set}
 use Rattle.std.proofs.lemmas.Bool.{cases_eq}
@@ -13,9 +13,9 @@ use Rattle.sw_base.specs.declared.terms.LayerName.TheVariants.{Arm, Trigger}
 use Rattle.sw_trigger.specs.declared.layer.Layer.{Layer}
 use Rattle.sw_trigger.specs.declared.layer.Awaited.{Awaited}
 use Rattle.sw_trigger.specs.declared.layer.Awaited.TheVariants.{Read}
-use Rattle.sw_trigger.specs.Settings.{SettingsSeen, IsInRange, IsLayer, AreArms, layer_of, with_layer, named, arms_of, most_of, plain_layer, at_reset}
-use Rattle.sw_trigger.specs.Agenda.{head_of}
-use Rattle.sw_trigger.specs.Counts.{in_turns, in_arms, in_passes, bound_of}
+use Rattle.sw_trigger.specs.Settings.{SettingsSeen, IsInRange, IsLayer, AreArms, layer_of, with_layer, named, most_of, plain_layer, at_reset}
+use Rattle.sw_trigger.specs.Agenda.{head_of, pause_of}
+use Rattle.sw_trigger.specs.Counts.{in_turns, in_arms, in_visit, in_passes, bound_of}
 use Rattle.sw_trigger.proofs.Awaiting.{length-in_turns, awaiting-agenda}
 
 -- each ARM layer has its place
@@ -43,8 +43,10 @@ range_layer s (Arm arm) layer r h = record {
   list = r.list;
   meter = r.meter;
   points = r.points;
+  settle = r.settle;
 }
-range_layer s Trigger layer r h = record { layers = r.layers; arms = r.arms; trigger = h; list = r.list; meter = r.meter; points = r.points }
+range_layer s Trigger layer r h =
+    record { layers = r.layers; arms = r.arms; trigger = h; list = r.list; meter = r.meter; points = r.points; settle = r.settle }
 
 plain_range : (most : ℕ) → 1 ≤ most → IsLayer most plain_layer
 plain_range most h = record { count = (omega arith, h); delay = omega arith; timer = (omega arith, omega arith) }
@@ -62,6 +64,7 @@ reset_range = record {
   list = omega arith;
   meter = (omega arith, omega arith);
   points = (omega arith, omega arith);
+  settle = omega arith;
 }
 
 -- turns await something where something is awaited inside them
@@ -79,5 +82,6 @@ some_arms s r (arm ∷ arms) inside h =
 -- a scan of what is listed awaits something
 pub some_bound : (s : SettingsSeen) → 0 < length s.list → IsInRange s → 0 < bound_of s
 some_bound s listed r =
-    let passes : 0 < length (in_passes s.trigger) = some_turns Trigger s.trigger (Read ∷ []) r.trigger.count.0 (omega arith) in
-    omega (arith, ap length (awaiting-agenda s listed), some_arms s r arm_layers (in_passes s.trigger) passes)
+    let visit : 0 < length (in_visit s.settle_us) = omega (arith, length-append (pause_of s.settle_us) (Read ∷ [])) in
+    let passes : 0 < length (in_passes s.settle_us s.trigger) = some_turns Trigger s.trigger (in_visit s.settle_us) r.trigger.count.0 visit in
+    omega (arith, ap length (awaiting-agenda s listed), some_arms s r arm_layers (in_passes s.settle_us s.trigger) passes)

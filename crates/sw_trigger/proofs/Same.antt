@@ -114,13 +114,16 @@ position_decides a b =
 pub positions_decide : (xs ys : List Position) (r : Bool) → r ≡ pointwise same_position xs ys → Decides r (xs ≡ ys)
 positions_decide = slice_eq-Decides position_decides
 
-abbrev setup : List Layer → Layer → List Position → ℕ → ℕ → SettingsSeen
-setup arms trigger list meter points = record { arms = arms; trigger = trigger; list = list; meter = meter; points = points }
+abbrev setup : List Layer → Layer → List Position → ℕ → ℕ → ℕ → SettingsSeen
+setup arms trigger list meter points settle =
+    record { arms = arms; trigger = trigger; list = list; meter = meter; points = points; settle_us = settle }
 
-pub same_setup : (a b : SettingsSeen) → a.arms ≡ b.arms → a.trigger ≡ b.trigger → a.list ≡ b.list → a.meter ≡ b.meter → a.points ≡ b.points → a ≡ b
-same_setup a b arms trigger list meter points =
-    ap (λ x. setup x a.trigger a.list a.meter a.points) arms
-    ∙ ap (λ x. setup b.arms x a.list a.meter a.points) trigger
-    ∙ ap (λ x. setup b.arms b.trigger x a.meter a.points) list
-    ∙ ap (λ x. setup b.arms b.trigger b.list x a.points) meter
-    ∙ ap (λ x. setup b.arms b.trigger b.list b.meter x) points
+pub same_setup : (a b : SettingsSeen) → a.arms ≡ b.arms → a.trigger ≡ b.trigger → a.list ≡ b.list → a.meter ≡ b.meter → a.points ≡ b.points
+    → a.settle_us ≡ b.settle_us → a ≡ b
+same_setup a b arms trigger list meter points settle =
+    ap (λ x. setup x a.trigger a.list a.meter a.points a.settle_us) arms
+    ∙ ap (λ x. setup b.arms x a.list a.meter a.points a.settle_us) trigger
+    ∙ ap (λ x. setup b.arms b.trigger x a.meter a.points a.settle_us) list
+    ∙ ap (λ x. setup b.arms b.trigger b.list x a.points a.settle_us) meter
+    ∙ ap (λ x. setup b.arms b.trigger b.list b.meter x a.settle_us) points
+    ∙ ap (λ x. setup b.arms b.trigger b.list b.meter b.points x) settle

@@ -34,7 +34,7 @@ wait_by name Timer timer = Period name timer ∷ []
 abbrev pub wait_of : LayerName → Layer → List Awaited
 wait_of name layer = wait_by name layer.source layer.timer_us
 
--- a layer's pause, which a delay of 0 leaves out
+-- a pause, which one of 0 leaves out
 abbrev pub pause_of : ℕ → List Awaited
 pause_of micros = if micros == 0 then [] else Pause micros ∷ []
 
@@ -46,13 +46,13 @@ head_of name layer = wait_of name layer ++ pause_of layer.delay_us
 abbrev pub position_at : List Position → ℕ → Position
 position_at list k = slice_index_or list (k % length list) []
 
--- one position measured
-abbrev pub visit : Position → List Item
-visit p = Close p ∷ Awaits Read ∷ Open p ∷ []
+-- one position measured: it is closed, settles for so many microseconds, is read and opened
+abbrev pub visit : ℕ → Position → List Item
+visit settle p = Close p ∷ (map Awaits (pause_of settle) ++ Awaits Read ∷ Open p ∷ [])
 
 -- pass number k of the TRIGger layer
 abbrev pub pass_of : SettingsSeen → ℕ → List Item
-pass_of s k = map Awaits (head_of Trigger s.trigger) ++ visit (position_at s.list k)
+pass_of s k = map Awaits (head_of Trigger s.trigger) ++ visit s.settle_us (position_at s.list k)
 
 -- n passes from number k on
 abbrev pub passes : SettingsSeen → ℕ → ℕ → List Item

@@ -7,7 +7,7 @@ use Rattle.sw_trigger.specs.declared.layer.Layer.{Layer}
 use Rattle.sw_trigger.specs.declared.layer.Awaited.{Awaited}
 use Rattle.sw_trigger.specs.declared.layer.Awaited.TheVariants.{Wait, Period, Pause, Read}
 use Rattle.sw_trigger.specs.Settings.{SettingsSeen, NamedLayer, arms_of}
-use Rattle.sw_trigger.specs.Agenda.{Item, Awaits, Close, Open, agenda, head_of, repeated}
+use Rattle.sw_trigger.specs.Agenda.{Item, Awaits, Close, Open, agenda, head_of, pause_of, repeated}
 
 -- the awaiting items, in order
 abbrev pub awaiting : List Item → List Awaited
@@ -44,13 +44,17 @@ abbrev pub in_arms : List NamedLayer → List Awaited → List Awaited
 in_arms [] inside = inside
 in_arms (arm ∷ arms) inside = in_turns arm.0 arm.1 (in_arms arms inside)
 
+-- what is awaited of a position that is closed: that it settles, and its reading
+abbrev pub in_visit : ℕ → List Awaited
+in_visit settle = pause_of settle ++ Read ∷ []
+
 -- what the passes of one turn of the inmost ARM layer await
-abbrev pub in_passes : Layer → List Awaited
-in_passes trigger = in_turns Trigger trigger (Read ∷ [])
+abbrev pub in_passes : ℕ → Layer → List Awaited
+in_passes settle trigger = in_turns Trigger trigger (in_visit settle)
 
 -- all that a scan awaits, where something is listed
 abbrev pub in_scan : SettingsSeen → List Awaited
-in_scan s = in_arms (arms_of s) (in_passes s.trigger)
+in_scan s = in_arms (arms_of s) (in_passes s.settle_us s.trigger)
 
 -- how often something is done that is done so often on each turn of the inmost of the ARM layers
 abbrev pub times : List NamedLayer → ℕ → ℕ
@@ -58,10 +62,10 @@ times [] n = n
 times (arm ∷ arms) n = arm.1.count * times arms n
 
 -- the most that so many ARM layers round the passes await, and read: on each turn a wait and a pause, and in each pass
--- a reading
-abbrev pub most_awaited : ℕ → ℕ
-most_awaited zero = most_trigger_count * (2 + 1)
-most_awaited (suc arms) = most_arm_count * (2 + most_awaited arms)
+-- a reading, and what is awaited before it of the position that is closed
+abbrev pub most_awaited : ℕ → ℕ → ℕ
+most_awaited visited zero = most_trigger_count * (2 + visited)
+most_awaited visited (suc arms) = most_arm_count * (2 + most_awaited visited arms)
 
 abbrev pub most_read : ℕ → ℕ
 most_read zero = most_trigger_count

@@ -9,6 +9,7 @@ setup_of s = record {
   list = s.list.items;
   meter = s.meter;
   points = s.points;
+  settle_us = s.settle_us;
 }
 
 abbrev pub HoldsRange : Inside → Type 0

@@ -1,5 +1,5 @@
--- The settings of a scan: the layers of the ARM-TRIGger model (SCPI-1999, chapter 24), the scan list, the meter's slot
--- and the room for readings.
+-- The settings of a scan: the layers of the ARM-TRIGger model (SCPI-1999, chapter 24), the scan list, the meter's slot,
+-- the room for readings, and the microseconds that a position settles for between its closing and its reading.
 use Rattle.std.specs.Prelude.{◌≡◌, ℕ, ◌-◌, ◌≤◌, List, [], length, map, replicate, slice_index_or, slice_set}
 use Rattle.sw_channel.specs.Positions.{Position}
 pub use Rattle.sw_base.specs.Limits.{longest_delay}
@@ -19,6 +19,7 @@ pub record SettingsSeen : Type 0 where
   pub list : List Position
   pub meter : ℕ
   pub points : ℕ
+  pub settle_us : ℕ
 
 -- a layer at *RST: once, at once
 abbrev pub plain_layer : Layer
@@ -65,6 +66,7 @@ pub record IsInRange (s : SettingsSeen) : Type 0 where
   pub list : length s.list ≤ most_entries
   pub meter : (1 ≤ s.meter) × (s.meter ≤ most_slots)
   pub points : (1 ≤ s.points) × (s.points ≤ most_points)
+  pub settle : s.settle_us ≤ longest_delay
 
 -- the settings at *RST
 abbrev pub at_reset : SettingsSeen
@@ -74,4 +76,5 @@ at_reset = record {
   list = [];
   meter = 4;
   points = 1000;
+  settle_us = 0;
 }

@@ -5,11 +5,11 @@ ghost use Rattle.std.specs.List.{slice_get};
 ghost use Rattle.sw_base.specs.declared.terms.Source.TheVariants.{Immediate};
 ghost use Rattle.sw_trigger.specs.declared.layer.Awaited.{Awaited as Await};
 ghost use Rattle.sw_trigger.specs.Agenda.{agenda, head_of, wait_of};
-ghost use Rattle.sw_base.specs.Limits.{most_arm_layers};
-ghost use Rattle.sw_trigger.specs.Counts.{awaiting, bound_of, readings_of, in_turns, in_arms, in_passes};
+ghost use Rattle.sw_base.specs.Limits.{most_arm_layers, most_trigger_count};
+ghost use Rattle.sw_trigger.specs.Counts.{awaiting, bound_of, readings_of, in_turns, in_arms, in_passes, in_visit};
 ghost use Rattle.sw_trigger.specs.Counts.{times, most_awaited, most_read};
 ghost use Rattle.sw_trigger.specs.Found.{Finds};
-ghost use Rattle.sw_trigger.specs.Settings.{named};
+ghost use Rattle.sw_trigger.specs.Settings.{named, IsLayer};
 
 use crate::layer::{Awaited, Layer};
 use crate::settings::Settings;
@@ -19,7 +19,7 @@ impl Settings {
     /// How many things a scan awaits; 0 where nothing is listed.
     pub fn bound(&self) -> u64
         ensures bound { result ≡ bound_of self.now }
-        ensures most { result ≤ most_awaited most_arm_layers }
+        ensures most { result ≤ most_awaited (length (in_visit self.now.settle_us)) most_arm_layers }
     {
         if self.list().is_empty() {
             return 0;
@@ -53,12 +53,13 @@ impl Settings {
 /// How many things all turns of these ARM layers await, the passes inside them.
 fn arms_len(settings: &Settings, arms: &[ArmLayer]) -> u64
     requires few { length arms.now ≤ most_arm_layers }
-    ensures len { result ≡ length (in_arms (named settings.now arms.now) (in_passes settings.now.trigger)) }
+    ensures len { result ≡ length (in_arms (named settings.now arms.now)
+        (in_passes settings.now.settle_us settings.now.trigger)) }
     ensures some { 0 < result }
-    ensures most { result ≤ most_awaited (length arms.now) }
+    ensures most { result ≤ most_awaited (length (in_visit settings.now.settle_us)) (length arms.now) }
 {
     match arms {
-        [] => turns_len(LayerName::Trigger, settings.layer(LayerName::Trigger), 1),
+        [] => passes_len(settings.layer(LayerName::Trigger), settings.settle_us()),
         [arm, inner @ ..] => {
             let name = LayerName::Arm(*arm);
             turns_len(name, settings.layer(name), arms_len(settings, inner))
@@ -83,11 +84,13 @@ fn arms_times(settings: &Settings, arms: &[ArmLayer]) -> u64
 /// The n-th thing that all turns of these ARM layers await, the passes inside them.
 fn find_in_arms(settings: &Settings, arms: &[ArmLayer], n: u64) -> Awaited
     requires few { length arms.now ≤ most_arm_layers }
-    requires within { n < length (in_arms (named settings.now arms.now) (in_passes settings.now.trigger)) }
-    ensures { slice_get (in_arms (named settings.now arms.now) (in_passes settings.now.trigger)) n ≡ Some result }
+    requires within { n < length (in_arms (named settings.now arms.now)
+        (in_passes settings.now.settle_us settings.now.trigger)) }
+    ensures { slice_get (in_arms (named settings.now arms.now)
+        (in_passes settings.now.settle_us settings.now.trigger)) n ≡ Some result }
 {
     match arms {
-        [] => find_in_passes(settings.layer(LayerName::Trigger), n),
+        [] => find_in_passes(settings.layer(LayerName::Trigger), settings.settle_us(), n),
         [arm, inner @ ..] => {
             let name = LayerName::Arm(*arm);
             match find(name, settings.layer(name), arms_len(settings, inner), n) {
@@ -98,15 +101,45 @@ fn find_in_arms(settings: &Settings, arms: &[ArmLayer], n: u64) -> Awaited
     }
 }
 
-/// The n-th thing that the passes of one turn of the inmost ARM layer await.
-fn find_in_passes(trigger: Layer, n: u64) -> Awaited
-    requires within { n < length (in_passes trigger) }
-    ensures { slice_get (in_passes trigger) n ≡ Some result }
+/// How many things the passes of one turn of the inmost ARM layer await.
+fn passes_len(trigger: Layer, settle_us: u64) -> u64
+    requires { IsLayer most_trigger_count trigger }
+    ensures len { result ≡ length (in_passes settle_us trigger) }
+    ensures some { 0 < result }
+    ensures most { result ≤ most_awaited (length (in_visit settle_us)) 0 }
 {
-    match find(LayerName::Trigger, trigger, 1, n) {
+    turns_len(LayerName::Trigger, trigger, visit_len(settle_us))
+}
+
+/// The n-th thing that the passes of one turn of the inmost ARM layer await.
+fn find_in_passes(trigger: Layer, settle_us: u64, n: u64) -> Awaited
+    requires within { n < length (in_passes settle_us trigger) }
+    ensures { slice_get (in_passes settle_us trigger) n ≡ Some result }
+{
+    match find(LayerName::Trigger, trigger, visit_len(settle_us), n) {
         Found::Here(what) => what,
-        Found::Inside(_) => Awaited::Read,
+        Found::Inside(i) => visit_at(settle_us, i),
     }
+}
+
+/// How many things are awaited of a position that is closed.
+fn visit_len(settle_us: u64) -> u64
+    ensures len { result ≡ length (in_visit settle_us) }
+    ensures some { 1 ≤ result }
+    ensures small { result ≤ 2 }
+{
+    if settle_us == 0 { 1 } else { 2 }
+}
+
+/// The n-th of them, from 0.
+fn visit_at(settle_us: u64, n: u64) -> Awaited
+    requires within { n < length (in_visit settle_us) }
+    ensures { slice_get (in_visit settle_us) n ≡ Some result }
+{
+    if settle_us != 0 && n == 0 {
+        return Awaited::Pause(settle_us);
+    }
+    Awaited::Read
 }
 
 /// Where in all turns of a layer a thing is awaited.

@@ -15,12 +15,12 @@ use sw_base::{
 };
 use sw_channel::Position;
 
-/// What a scan does: the layers of the trigger model, a list of positions, the slot of its meter and its room for
-/// readings.
+/// What a scan does: the layers of the trigger model, a list of positions, how long each settles, the slot of its meter
+/// and its room for readings.
 ///
 /// Contracts see a plain record. Counts are 1 to `ARM_COUNT` for an ARM layer and 1 to `TRIGGER_COUNT` for TRIGger,
 /// delays at most an hour, timers 1 microsecond to an hour, the meter's slot 1 to `SLOTS`, the points 1 to `POINTS`,
-/// and the list has at most `LIST_ENTRIES` positions.
+/// a position settles for an hour at most, and the list has at most `LIST_ENTRIES` positions.
 #[derive(Debug, Drop)]
 pub struct Settings {
     /// The ARM layers, the outermost first.
@@ -29,6 +29,8 @@ pub struct Settings {
     list: Vec<Position>,
     meter: u8,
     points: u32,
+    /// Microseconds between the closing of a position and its reading, 0 for no pause.
+    settle_us: u64,
 }
 
 impl Model for Settings {
@@ -44,7 +46,8 @@ impl Model for Settings {
 }
 
 impl Settings {
-    /// The settings at `*RST`: each layer once and at once, nothing listed, the meter in slot 4, 1,000 points.
+    /// The settings at `*RST`: each layer once and at once, nothing listed, the meter in slot 4, 1,000 points, no time to
+    /// settle.
     pub fn new(alloc: Global) -> Settings
         ensures { result ≡ at_reset }
     {
@@ -54,6 +57,7 @@ impl Settings {
             list: Vec::new(alloc),
             meter: 4,
             points: 1000,
+            settle_us: 0,
         }
     }
 
@@ -66,6 +70,7 @@ impl Settings {
         self.list.clear();
         self.meter = 4;
         self.points = 1000;
+        self.settle_us = 0;
     }
 
     /// Sets a layer's count; -222 outside its range.
@@ -167,6 +172,20 @@ impl Settings {
         Ok(())
     }
 
+    /// Sets how long a position settles between its closing and its reading, in microseconds; -222 above an hour.
+    pub fn set_settling(&mut self, settle_us: u64) -> Result<(), ScpiError>
+        ensures taken { IsOk result ↔ (settle_us ≤ longest_delay) }
+        ensures set { OnOk result (self.new ≡ record self.old { settle_us = settle_us }) }
+        ensures kept { OnErr result (self.new ≡ self.old) }
+        ensures error { IfErr result (λ e. e ≡ DataOutOfRange) }
+    {
+        if settle_us > LONGEST_DELAY {
+            return Err(ScpiError::DataOutOfRange);
+        }
+        self.settle_us = settle_us;
+        Ok(())
+    }
+
     /// A layer's settings.
     pub fn layer(&self, name: LayerName) -> Layer
         ensures layer { result ≡ layer_of self.now name }
@@ -221,6 +240,14 @@ impl Settings {
         self.points
     }
 
+    /// How long a position settles between its closing and its reading, in microseconds; 0 for no pause.
+    pub fn settle_us(&self) -> u64
+        ensures settle { result ≡ self.now.settle_us }
+        ensures range { IsInRange self.now }
+    {
+        self.settle_us
+    }
+
     /// A copy of the settings.
     pub fn try_copy(&self, alloc: Global) -> Result<Settings, AllocError>
         ensures { IfOk result (λ copy. copy ≡ self.now) }
@@ -232,6 +259,7 @@ impl Settings {
             list,
             meter: self.meter,
             points: self.points,
+            settle_us: self.settle_us,
         })
     }
 
@@ -243,6 +271,9 @@ impl Settings {
             return false;
         }
         if self.meter != other.meter || self.points != other.points {
+            return false;
+        }
+        if self.settle_us != other.settle_us {
             return false;
         }
         self.list.as_slice() == other.list.as_slice()

@@ -12,9 +12,10 @@ use Rattle.sw_base.specs.Limits.{most_arm_layers}
 use Rattle.sw_base.specs.declared.terms.Source.{Source}
 use Rattle.sw_base.specs.declared.terms.Source.TheVariants.{Immediate, Bus, External, Hold, Timer}
 use Rattle.sw_trigger.specs.declared.layer.Layer.{Layer}
-use Rattle.sw_trigger.specs.declared.layer.Awaited.TheVariants.{Pause}
+use Rattle.sw_channel.specs.Positions.{Position}
+use Rattle.sw_trigger.specs.declared.layer.Awaited.TheVariants.{Pause, Read}
 use Rattle.sw_trigger.specs.Settings.{SettingsSeen, IsInRange, NamedLayer, named, layer_of, arms_of}
-use Rattle.sw_trigger.specs.Agenda.{Item, Awaits, wait_by, wait_of, pause_of, head_of, position_at, visit, pass_of, passes, repeated, turns_of}
+use Rattle.sw_trigger.specs.Agenda.{Item, Awaits, Open, wait_by, wait_of, pause_of, head_of, position_at, visit, pass_of, passes, repeated, turns_of}
 use Rattle.sw_trigger.specs.Agenda.{agenda}
 use Rattle.sw_trigger.proofs.Repeats.{length-repeated}
 use Rattle.sw_trigger.proofs.Awaiting.{agenda_is}
@@ -40,16 +41,26 @@ length-head name l =
       length-cond_pause (eqb l.delay_us 0) l.delay_us,
     )
 
-length-passes : (s : SettingsSeen) (k n : ℕ) → length (passes s k n) ≤ n * 5
+length-visit : (settle : ℕ) (p : Position) → length (visit settle p) ≤ 4
+length-visit settle p =
+    omega (
+      arith,
+      length-append (map Awaits (pause_of settle)) (Awaits Read ∷ Open p ∷ []),
+      length-map (pause_of settle) Awaits,
+      length-cond_pause (eqb settle 0) settle,
+    )
+
+length-passes : (s : SettingsSeen) (k n : ℕ) → length (passes s k n) ≤ n * 6
 length-passes s k zero = omega arith
 length-passes s k (suc n) =
     omega (
       arith,
       length-append (pass_of s k) (passes s (suc k) n),
-      length-append (map Awaits (head_of Trigger s.trigger)) (visit (position_at s.list k)),
+      length-append (map Awaits (head_of Trigger s.trigger)) (visit s.settle_us (position_at s.list k)),
       length-head Trigger s.trigger,
+      length-visit s.settle_us (position_at s.list k),
       length-passes s (suc k) n,
-      suc-mul n 5,
+      suc-mul n 6,
     )
 
 length-turns : (arm : NamedLayer) (inside : List Item) (most : ℕ) → arm.1.count ≤ 1000 → length inside ≤ most
@@ -65,7 +76,7 @@ length-turns arm inside most few short =
 
 -- the most items of the passes inside so many ARM layers
 abbrev most_items : ℕ → ℕ
-most_items zero = 500000
+most_items zero = 600000
 most_items (suc n) = 1000 * (2 + most_items n)
 
 length-arms : (s : SettingsSeen) → IsInRange s → (arms : List ArmLayer) (inside : List Item) → length inside ≤ most_items 0
@@ -78,7 +89,7 @@ length-arms s i (arm ∷ arms) inside h =
 pub length-agenda : (s : SettingsSeen) → 0 < length s.list → IsInRange s → length (agenda s) < 2 ^ 64
 length-agenda s h i =
     let all = passes s 0 s.trigger.count in
-    let c : s.trigger.count * 5 ≤ 100000 * 5 = mul-le s.trigger.count 5 100000 5 i.trigger.count.1 (omega arith) in
+    let c : s.trigger.count * 6 ≤ 100000 * 6 = mul-le s.trigger.count 6 100000 6 i.trigger.count.1 (omega arith) in
     let turns : length (turns_of (arms_of s) all) ≤ most_items most_arm_layers =
     length-arms s i arm_layers all (omega (arith, length-passes s 0 s.trigger.count, c)) in
     omega (arith, turns, ap length (agenda_is s h))

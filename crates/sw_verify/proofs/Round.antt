@@ -9,7 +9,8 @@ use Rattle.sw_trigger.specs.declared.layer.Awaited.{Awaited}
 use Rattle.sw_base.specs.declared.terms.LayerName.TheVariants.{Trigger}
 use Rattle.sw_trigger.specs.Settings.{SettingsSeen, IsInRange, NamedLayer, arms_of}
 use Rattle.sw_base.specs.Layers.{arm_layers}
-use Rattle.sw_trigger.specs.Agenda.{Item, Awaits, Close, Open, repeated, visit, head_of, position_at, pass_of, passes, turns_of, agenda}
+use Rattle.sw_trigger.specs.declared.layer.Awaited.TheVariants.{Read}
+use Rattle.sw_trigger.specs.Agenda.{Item, Awaits, Close, Open, repeated, visit, head_of, pause_of, position_at, pass_of, passes, turns_of, agenda}
 use Rattle.sw_trigger.specs.Counts.{reads}
 use Rattle.sw_trigger.proofs.Awaiting.{agenda_is}
 use Rattle.sw_trigger.proofs.Same.{channel_decides}
@@ -125,13 +126,24 @@ moments_awaits b [] (suc i) = refl
 moments_awaits b (w ∷ ws) zero = refl
 moments_awaits b (w ∷ ws) (suc i) = moments_awaits b ws i
 
-moments_visit : (Of : Position → Type 0) (b : Channels) (c : Position) → Of c → ((x : Channel) → is_among c x ≡ true → b x ≡ false) → (i : ℕ)
-    → AtMostOneMore Of b (effect b (take i (visit c)))
-moments_visit Of b c of h zero = inl (λ x. refl)
-moments_visit Of b c of h (suc zero) = inr (c, of, λ x. refl)
-moments_visit Of b c of h (suc (suc zero)) = inr (c, of, λ x. refl)
-moments_visit Of b c of h (suc (suc (suc zero))) = same_is_near Of b (without_each c (with_each c b)) (undone c b h)
-moments_visit Of b c of h (suc (suc (suc (suc i)))) = same_is_near Of b (without_each c (with_each c b)) (undone c b h)
+effect-awaits : (b : Channels) (ws : List Awaited) (xs : List Item) → effect b (map Awaits ws ++ xs) ≡ effect b xs
+effect-awaits b [] xs = refl
+effect-awaits b (w ∷ ws) xs = effect-awaits b ws xs
+
+-- a position that is closed, awaited, read and opened
+moments_closed : (Of : Position → Type 0) (b : Channels) (ws : List Awaited) (c : Position) → Of c → ((x : Channel) → is_among c x ≡ true → b x ≡ false)
+    → (i : ℕ) → AtMostOneMore Of b (effect (with_each c b) (take i (map Awaits ws ++ Awaits Read ∷ Open c ∷ [])))
+moments_closed Of b [] c of h zero = inr (c, of, λ x. refl)
+moments_closed Of b [] c of h (suc zero) = inr (c, of, λ x. refl)
+moments_closed Of b [] c of h (suc (suc zero)) = same_is_near Of b (without_each c (with_each c b)) (undone c b h)
+moments_closed Of b [] c of h (suc (suc (suc i))) = same_is_near Of b (without_each c (with_each c b)) (undone c b h)
+moments_closed Of b (w ∷ ws) c of h zero = inr (c, of, λ x. refl)
+moments_closed Of b (w ∷ ws) c of h (suc i) = moments_closed Of b ws c of h i
+
+moments_visit : (Of : Position → Type 0) (b : Channels) (settle : ℕ) (c : Position) → Of c → ((x : Channel) → is_among c x ≡ true → b x ≡ false) → (i : ℕ)
+    → AtMostOneMore Of b (effect b (take i (visit settle c)))
+moments_visit Of b settle c of h zero = inl (λ x. refl)
+moments_visit Of b settle c of h (suc i) = moments_closed Of b (pause_of settle) c of h i
 
 -- any position
 abbrev pub anyone : Position → Type 0
@@ -155,24 +167,41 @@ module _ (layout : Layout) (b : Channels) (Of : Position → Type 0) where
     moments = λ p i. same_is_near Of b (effect b (take i (map Awaits (w ∷ ws)))) (moments_awaits b (w ∷ ws) i);
   }
 
-  pub round-visit : (c : Position) → Of c → IsRound layout b Of (CanCloseEach layout b c) (visit c)
-  round-visit c of = let clear : without_each c (with_each c none) ≡ none = undone c none (λ x e. refl) in record {
-    needs = λ rest h. (
-      h.0,
-      subst (λ (m : Channels). AllRight layout m none rest) (undone c b (each_open layout b c h.0)) (subst (λ (m : Channels).
-          AllRight layout (without_each c (with_each c b)) m rest) clear h.1.1),
-    );
-    may = λ rest p h. (
-      p,
-      (
-        each_opens layout b (with_each c none) c p (each_among c none),
-        subst (λ (m : Channels). AllRight layout (without_each c (with_each c b)) m rest) (sym clear) (subst (λ (m : Channels).
-            AllRight layout m none rest) (sym (undone c b (each_open layout b c p))) h),
-      ),
-    );
-    keeps = λ p. undone c b (each_open layout b c p);
-    moments = λ p i. moments_visit Of b c of (each_open layout b c p) i;
-  }
+  -- what is awaited is always right
+  past_awaits : (m o : Channels) (ws : List Awaited) (xs : List Item) → AllRight layout m o (map Awaits ws ++ xs) → AllRight layout m o xs
+  past_awaits m o [] xs h = h
+  past_awaits m o (w ∷ ws) xs h = past_awaits m o ws xs h
+
+  before_awaits : (m o : Channels) (ws : List Awaited) (xs : List Item) → AllRight layout m o xs → AllRight layout m o (map Awaits ws ++ xs)
+  before_awaits m o [] xs h = h
+  before_awaits m o (w ∷ ws) xs h = before_awaits m o ws xs h
+
+  pub round-visit : (settle : ℕ) (c : Position) → Of c → IsRound layout b Of (CanCloseEach layout b c) (visit settle c)
+  round-visit settle c of =
+      let clear : without_each c (with_each c none) ≡ none = undone c none (λ x e. refl) in
+      let ws = pause_of settle in
+      let end : List Item = Awaits Read ∷ Open c ∷ [] in
+      let apart : (rest : List Item) → (map Awaits ws ++ end) ++ rest ≡ map Awaits ws ++ (end ++ rest) = λ rest. append_assoc (map Awaits ws) end rest in
+      record {
+        needs = λ rest h.
+            let opened = past_awaits (with_each c b) (with_each c none) ws (end ++ rest)
+            (subst (λ (l : List Item). AllRight layout (with_each c b) (with_each c none) l) (apart rest) h.1) in (
+              h.0,
+              subst (λ (m : Channels). AllRight layout m none rest) (undone c b (each_open layout b c h.0)) (subst (λ (m : Channels).
+                  AllRight layout (without_each c (with_each c b)) m rest) clear opened.1),
+            );
+        may = λ rest p h. (
+          p,
+          subst (λ (l : List Item). AllRight layout (with_each c b) (with_each c none) l) (sym (apart rest))
+              (before_awaits (with_each c b) (with_each c none) ws (end ++ rest) (
+                each_opens layout b (with_each c none) c p (each_among c none),
+                subst (λ (m : Channels). AllRight layout (without_each c (with_each c b)) m rest) (sym clear) (subst (λ (m : Channels).
+                    AllRight layout m none rest) (sym (undone c b (each_open layout b c p))) h),
+              )),
+        );
+        keeps = λ p. effect-awaits (with_each c b) ws end ∙ undone c b (each_open layout b c p);
+        moments = λ p i. moments_visit Of b settle c of (each_open layout b c p) i;
+      }
 
   pub round-append : (xs ys : List Item) {P Q : Type 0} → IsRound layout b Of P xs → IsRound layout b Of Q ys → IsRound layout b Of (P × Q) (xs ++ ys)
   round-append xs ys r q = record {
@@ -219,8 +248,8 @@ module _ (layout : Layout) (b : Channels) (Of : Position → Type 0) where
   round-pass s of k =
       round-like (pass_of s k) (λ (w : Unit {0} × CanCloseEach layout b (position_at s.list k)). w.1)
       (λ (h : CanCloseEach layout b (position_at s.list k)). (tt, h))
-      (round-append (map Awaits (head_of Trigger s.trigger)) (visit (position_at s.list k)) (round-awaits (head_of Trigger s.trigger))
-      (round-visit (position_at s.list k) (of k)))
+      (round-append (map Awaits (head_of Trigger s.trigger)) (visit s.settle_us (position_at s.list k)) (round-awaits (head_of Trigger s.trigger))
+      (round-visit s.settle_us (position_at s.list k) (of k)))
 
   pub round-passes : (s : SettingsSeen) → IsOf s → (k n : ℕ) → IsRound layout b Of (CanPass s k n) (passes s k n)
   round-passes s of k zero = round-like [] (λ (u : Unit {0}). λ j h g. absurd (omega arith)) (λ (f : CanPass s k 0). tt) round-none

@@ -71,6 +71,7 @@ leaves_command p available (Command.Plain Plain.Initiate) = tt
 leaves_command p available (Command.Plain Plain.OpenAll) = record { seats = refl; scan = λ n i. i }
 leaves_command p available (Command.Plain Plain.Preset) = tt
 leaves_command p available (Command.Plain Plain.Fetch) = tt
+leaves_command p available (Command.Plain Plain.Read) = tt
 leaves_command p available (Command.Query query) = tt
 leaves_command p available (Command.LayerQuery query layer) = tt
 leaves_command p available (Command.GroupQuery query group) = tt
@@ -80,12 +81,14 @@ leaves_command p available (Command.Continuous true) = tt
 leaves_command p available (Command.Continuous false) = record { seats = refl; scan = λ n i. i }
 leaves_command p available (Command.Channels Channels.Close chans) = tt
 leaves_command p available (Command.Channels Channels.CloseQuery chans) = tt
+leaves_command p available (Command.Channels Channels.CloseCheck chans) = tt
 leaves_command p available (Command.Channels Channels.Open chans) = tt
 leaves_command p available (Command.Channels Channels.OpenQuery chans) = tt
 leaves_command p available (Command.Set setting) = tt
 leaves_command p available (Command.SetStatus setting) = tt
 leaves_command p available (Command.Macros ask) = tt
 leaves_command p available (Command.Macro ask) = tt
+leaves_command p available (Command.ScanReadings number count) = tt
 
 leaves_close : {ends : Bool} (p : Panel) (chans : List Channel) (f : Bool) (a : SessionAnswer) (q : Panel) → StepClose p chans f a q → Leaves ends p q
 leaves_close p chans f (Done None) q h = leaves_by p q (ap (λ (x : Panel). x.sessions) h.3) (ap is_running h.3)
@@ -133,7 +136,7 @@ leaves_readings (r ∷ rs) p f a q h = leaves_text p (join_with_byte 44 (map rea
 
 leaves_alone : {ends : Bool} (d : Effect) (p : Panel) (f : Bool) (a : SessionAnswer) (q : Panel) → LeavesEffect ends p d → StepAlone d p f a q → Leaves ends p q
 leaves_alone (TellsText text) p f a q n h = leaves_text p (text p) p.status f a q h
-leaves_alone TellsReadings p f a q n h = leaves_readings p.cage.readings p f a q h
+leaves_alone (TellsReadings readings) p f a q n h = leaves_readings (readings p) p f a q h
 leaves_alone (ReadsOut text after) p f a q n h = leaves_text p (text p.status) (after p.status) f a q h
 leaves_alone (SetsStatus after) p f a q n h = leaves_done p (record p { status = after p.status }) f a q (record { seats = refl; scan = λ e i. i }) h
 leaves_alone (SetsUp Fits error after) p f a q n h = leaves_setting p Fits error (after p.settings) f a q h

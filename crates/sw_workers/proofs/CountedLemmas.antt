@@ -69,6 +69,7 @@ same_command p available (Command.Plain Plain.Initiate) = tt
 same_command p available (Command.Plain Plain.OpenAll) = refl
 same_command p available (Command.Plain Plain.Preset) = tt
 same_command p available (Command.Plain Plain.Fetch) = tt
+same_command p available (Command.Plain Plain.Read) = tt
 same_command p available (Command.Query query) = tt
 same_command p available (Command.LayerQuery query layer) = tt
 same_command p available (Command.GroupQuery query group) = tt
@@ -78,12 +79,14 @@ same_command p available (Command.Continuous true) = tt
 same_command p available (Command.Continuous false) = refl
 same_command p available (Command.Channels Channels.Close chans) = tt
 same_command p available (Command.Channels Channels.CloseQuery chans) = tt
+same_command p available (Command.Channels Channels.CloseCheck chans) = tt
 same_command p available (Command.Channels Channels.Open chans) = tt
 same_command p available (Command.Channels Channels.OpenQuery chans) = tt
 same_command p available (Command.Set setting) = tt
 same_command p available (Command.SetStatus setting) = tt
 same_command p available (Command.Macros ask) = tt
 same_command p available (Command.Macro ask) = tt
+same_command p available (Command.ScanReadings number count) = tt
 
 same_close : (p : Panel) (chans : List Channel) (f : Bool) (a : SessionAnswer) (q : Panel) → StepClose p chans f a q → IsSame p q
 same_close p chans f (Done None) q h = ap (λ (x : Panel). x.events) h.3
@@ -129,7 +132,7 @@ same_readings (r ∷ rs) p f a q h = same_text p (join_with_byte 44 (map reading
 
 same_alone : (d : Effect) (p : Panel) (f : Bool) (a : SessionAnswer) (q : Panel) → IsSameEffect p d → StepAlone d p f a q → IsSame p q
 same_alone (TellsText text) p f a q n h = same_text p (text p) p.status f a q h
-same_alone TellsReadings p f a q n h = same_readings p.cage.readings p f a q h
+same_alone (TellsReadings readings) p f a q n h = same_readings (readings p) p f a q h
 same_alone (ReadsOut text after) p f a q n h = same_text p (text p.status) (after p.status) f a q h
 same_alone (SetsStatus after) p f a q n h = same_done p (record p { status = after p.status }) f a q refl h
 same_alone (SetsUp Fits error after) p f a q n h = same_setting p Fits error (after p.settings) f a q h
@@ -179,7 +182,7 @@ same_action (AfterScan d) p ask f a w q n h = same_waiting (is_running p) d p as
 -- ---- sessions
 
 same_snapshot : (p : Panel) (f : Bool) (a : SessionAnswer) (q : Panel) → StepSnapshot p f a q → IsSame p q
-same_snapshot p f (answers.Snapshot s) q h = ap (λ (x : Panel). x.events) h.3
+same_snapshot p f (answers.Snapshot s number) q h = ap (λ (x : Panel). x.events) h.3
 same_snapshot p f (Refused OutOfMemory) q h = ap (λ (x : Panel). x.events) h.2
 same_snapshot p f (Refused e) q h = ap (λ (x : Panel). x.events) h.2
 same_snapshot p f a q h = absurd h
@@ -292,7 +295,7 @@ session_counted (Refused e) w p k = ended_counted p.events k
 session_counted (Joined sid) w p k = ended_counted p.events k
 session_counted Full w p k = ended_counted p.events k
 session_counted (Done text) w p k = ended_counted p.events k
-session_counted (answers.Snapshot s) w p k = ended_counted p.events k
+session_counted (answers.Snapshot s number) w p k = ended_counted p.events k
 session_counted answers.Missed w p k = ended_counted p.events k
 session_counted (answers.Max n) w p k = ended_counted p.events k
 session_counted (answers.Lock code) w p k = ended_counted p.events k

@@ -40,16 +40,16 @@ none_twice : (l : List Bool) → none_closed (none_closed l) ≡ none_closed l
 none_twice [] = refl
 none_twice (x ∷ xs) = ap (λ (l : List Bool). false ∷ l) (none_twice xs)
 
-rest_twice : (o : Option Account) → option_rest (option_rest o) ≡ option_rest o
+pub rest_twice : (o : Option Account) → option_rest (option_rest o) ≡ option_rest o
 rest_twice None = refl
 rest_twice (Some a) = ap (λ (l : List Bool). Some (record a { closed = l })) (none_twice a.closed)
 
-open_twice : (rack : Accounts) → all_open (all_open rack) ≡ all_open rack
+pub open_twice : (rack : Accounts) → all_open (all_open rack) ≡ all_open rack
 open_twice [] = refl
 open_twice (x ∷ xs) = let e = rest_twice x in let es = open_twice xs in cc
 
 -- stopping a scan closes nothing, and takes nothing out
-stopped_if : (p : CageSeen) (b : Bool) → all_open (if b then safe_state p else p).cards ≡ all_open p.cards
+pub stopped_if : (p : CageSeen) (b : Bool) → all_open (if b then safe_state p else p).cards ≡ all_open p.cards
 stopped_if p true = open_twice p.cards
 stopped_if p false = refl
 
@@ -86,7 +86,7 @@ concluded_cage p slot f (SaysEjected card) q h = refl
 concluded_cage p slot f (SaysNotEjected refusal) q h = refl
 concluded_cage p slot f a q h = absurd h
 
-unnumbered : (n : ℕ) (slot : ℕ) → ((n == last_number) && not (acts_unnumbered (AskEject slot))) ≡ false
+pub unnumbered : (n : ℕ) (slot : ℕ) → ((n == last_number) && not (acts_unnumbered (AskEject slot))) ≡ false
 unnumbered n slot = and_right (n == last_number) false refl
 
 -- what an eject that is asked does

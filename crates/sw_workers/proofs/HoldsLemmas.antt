@@ -42,7 +42,7 @@ readings_held (r ∷ rs) p w q h = h
 
 alone_held : (e : Effect) (p : Panel) (w : SessionAsk) (q : Panel) → StepAlone e p false (Hold w) q → ⊥
 alone_held (TellsText text) p w q h = h
-alone_held TellsReadings p w q h = readings_held p.cage.readings p w q h
+alone_held (TellsReadings readings) p w q h = readings_held (readings p) p w q h
 alone_held (ReadsOut text after) p w q h = h
 alone_held (SetsStatus after) p w q h = h
 alone_held (SetsUp Fits error after) p w q h = h

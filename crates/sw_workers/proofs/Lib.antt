@@ -12,7 +12,10 @@ mod AtDesksLemmas
 mod NotesLemmas
 mod WorkedLemmas
 mod HistoryRunsLemmas
-mod EjectedLemmas
+pub mod EjectedLemmas
+mod OpenedLemmas
+mod RestLemmas
+mod AbortedLemmas
 mod AskedLemmas
 mod ServingLemmas
 mod EachCountedLemmas

@@ -97,7 +97,7 @@ stays_readings (r ∷ rs) p f a q h = stays_text p (join_with_byte 44 (map readi
 
 stays_alone : (d : Effect) (p : Panel) (f : Bool) (a : SessionAnswer) (q : Panel) → StepAlone d p f a q → Stays (is_session_event a) p q
 stays_alone (TellsText text) p f a q h = stays_text p (text p) p.status f a q h
-stays_alone TellsReadings p f a q h = stays_readings p.cage.readings p f a q h
+stays_alone (TellsReadings readings) p f a q h = stays_readings (readings p) p f a q h
 stays_alone (ReadsOut text after) p f a q h = stays_text p (text p.status) (after p.status) f a q h
 stays_alone (SetsStatus after) p f a q h = stays_done p (record p { status = after p.status }) f a q h
 stays_alone (SetsUp Fits error after) p f a q h = stays_setting p Fits error (after p.settings) f a q h
@@ -152,7 +152,7 @@ stays_action (AfterScan d) p ask f a w q h = stays_waiting (is_running p) d p as
 -- ---- sessions
 
 stays_snapshot : (p : Panel) (f : Bool) (a : SessionAnswer) (q : Panel) → StepSnapshot p f a q → Stays (is_session_event a) p q
-stays_snapshot p f (answers.Snapshot s) q h = tt
+stays_snapshot p f (answers.Snapshot s number) q h = tt
 stays_snapshot p f (Refused e) q h = tt
 stays_snapshot p f a q h = absurd h
 
@@ -279,7 +279,7 @@ session_ends (Refused e) p = tt
 session_ends (Joined sid) p = tt
 session_ends Full p = tt
 session_ends (Done text) p = tt
-session_ends (answers.Snapshot s) p = tt
+session_ends (answers.Snapshot s number) p = tt
 session_ends answers.Missed p = tt
 session_ends (answers.Max n) p = tt
 session_ends (answers.Lock code) p = tt

@@ -207,7 +207,7 @@ seat_keeps p (Ask.LockInfo s) f (Info exclusive m) o q sid k j e ran runs n t h 
 seat_keeps p w f a o q sid k j e ran runs n t h is = absurd h
 
 snapshot_keeps : (p : Panel) (f : Bool) (a : SessionAnswer) (q : Panel) → StepSnapshot p f a q → Keeps p q
-snapshot_keeps p f (answers.Snapshot s) q h = same_keeps p q h.3
+snapshot_keeps p f (answers.Snapshot s number) q h = same_keeps p q h.3
 snapshot_keeps p f (Refused OutOfMemory) q h = same_keeps p q h.2
 snapshot_keeps p f (Refused e) q h = same_keeps p q h.2
 snapshot_keeps p f a q h = absurd h
@@ -371,7 +371,7 @@ session_ends (Refused e) p = (refl, refl)
 session_ends (Joined sid) p = (refl, refl)
 session_ends Full p = (refl, refl)
 session_ends (Done text) p = (refl, refl)
-session_ends (answers.Snapshot s) p = (refl, refl)
+session_ends (answers.Snapshot s number) p = (refl, refl)
 session_ends Missed p = (refl, refl)
 session_ends (Max n) p = (refl, refl)
 session_ends (Lock code) p = (refl, refl)

@@ -9,7 +9,9 @@ pub mod Work
 pub mod Closing
 pub mod Ahead
 pub mod Connected
+pub mod Opened
 pub mod Outboxes
+pub mod Leaving
 pub mod Limits
 pub mod Pauses
 pub mod Laws

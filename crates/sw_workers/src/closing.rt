@@ -29,8 +29,8 @@ pub struct Closed<R: Relay, M: Meter> {
     pub cards: Vec<Option<Card<R, M>>>,
 }
 
-/// Ends a mainframe of which every desk is given back. Where one is missing, or no memory is to be had, what was given
-/// is handed back, and nothing changed.
+/// Ends a mainframe of which every desk is given back, where every relay was opened and no session has asked since.
+/// Else, where a desk is missing, or no memory is to be had, what was given is handed back, and nothing changed.
 pub fn close_down<H: Mainframe, R: Relay, M: Meter, G: Gate + Drop, W: Wait + Clock + Copy + Drop>(
     rt: &W,
     alloc: Global,
@@ -54,10 +54,10 @@ pub fn close_down<H: Mainframe, R: Relay, M: Meter, G: Gate + Drop, W: Wait + Cl
     let Ok(room) = Vec::with_capacity(alloc, SLOTS as usize) else {
         return Err((shared, desks));
     };
-    let Some(spare) = shared.take_spare(rt, desks.len() as u64) else {
-        return Err((shared, desks));
-    };
-    Ok(shared.close_down(rt, gather(spare, desks), room))
+    match shared.close_down(rt, desks, room) {
+        Ok(closed) => Ok(closed),
+        Err(desks) => Err((shared, desks)),
+    }
 }
 
 /// Takes the cards out of their slots, with nothing closed. Where a slot gives none, there is none at its place.
@@ -109,7 +109,7 @@ fn take_out<H: Mainframe, R: Relay, M: Meter>(
 }
 
 /// All shares in one.
-fn gather<H: Mainframe, R: Relay, M: Meter, G: Gate + Drop, W: Wait + Clock + Copy + Drop>(
+pub fn gather<H: Mainframe, R: Relay, M: Meter, G: Gate + Drop, W: Wait + Clock + Copy + Drop>(
     spare: Share<H>,
     mut desks: Vec<SharedDesk<H, R, M, G, W>>,
 ) -> Share<H>

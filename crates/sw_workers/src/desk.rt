@@ -4,11 +4,13 @@ ghost use Rattle.std.specs.Prelude.{◌≡◌, [], None, Some, IfSome};
 ghost use Rattle.sw_core.specs.Seen.{ask_seen, answer_seen, work_seen, AskSession, SaysSession};
 ghost use Rattle.sw_session.specs.CoreDesk.{TellsOfPiece, piece_seen};
 ghost use Rattle.sw_session.specs.Trace.{LeavesOf};
+ghost use Rattle.sw_workers.specs.Opened.{OpensAll};
 ghost use Rattle.sw_workers.specs.Waits.{MayRest, limit_after, number_after, told_left};
 ghost use Rattle.sw_workers.specs.Work.{AsksOnce, Brings, SeesToWork, EndsPiece, LeavesUnasked, IsRested, Works};
 
 use crate::gate::{Gate, Point};
 use crate::held::{DeskPart, Mainframe};
+use crate::leaving::await_served;
 use crate::limits::{Limit, slice_of};
 use crate::outboxes::Place;
 use crate::shared::{Shared, Woken};
@@ -131,6 +133,13 @@ impl<H: Mainframe, R: Relay, M: Meter, G: Gate + Drop, W: Wait + Clock + Copy + 
         })
     }
 
+    /// Ends the scan that runs and opens every relay, whoever has a lock: each card comes out of its slot and goes back.
+    pub fn open_all(&mut self)
+        ensures { OpensAll H.first self.new.part }
+    {
+        self.seen = self.shared.open_all(&self.rt, &mut self.part);
+    }
+
     /// Carries a piece of work out, and sees to what that brings.
     pub(crate) fn work_off(&mut self, piece: Work<M>)
         ensures { Works H.first self.old.part self.new.part }
@@ -245,9 +254,19 @@ impl<H: Mainframe, R: Relay, M: Meter, G: Gate + Drop, W: Wait + Clock + Copy + 
         }
     }
 
-    /// Waits until the mainframe's turn is another, the limit is over, or the client has ended its connection, for
-    /// which it looks again and again.
+    /// Waits until the mainframe's turn is another, the limit is over, or the client has ended its connection. The other
+    /// thread of the session sees that it waits.
     fn rest(&self, limit: Option<Limit>) -> Rest
+        ensures { limit ≡ None → MayRest H.over None result }
+    {
+        self.place.note_wait(&self.rt, true);
+        let rest = self.rest_on(limit);
+        self.place.note_wait(&self.rt, false);
+        rest
+    }
+
+    /// Waits, and looks again and again whether the client has ended its connection.
+    fn rest_on(&self, limit: Option<Limit>) -> Rest
         ensures { limit ≡ None → MayRest H.over None result }
     {
         let rt = self.rt;
@@ -310,6 +329,9 @@ impl<H: Mainframe, R: Relay, M: Meter, G: Gate + Drop, W: Wait + Clock + Copy + 
 
     fn ask_into(&mut self, ask: SessionAsk, answer: &mut SessionAnswer) {
         self.shared.gate().pass(&self.rt, Point::Ask);
+        if let SessionAsk::Release(_) = &ask {
+            await_served(&self.rt, &*self.place);
+        }
         let seating = seating_of(&ask);
         let mut work = None;
         self.act_session(seating, ask, answer, &mut work);

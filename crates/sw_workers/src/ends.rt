@@ -42,7 +42,7 @@ impl Ends {
         }
     }
 
-    /// Gives the number to a session, unless this session or a later one has it.
+    /// Gives the number to a session, unless this session or a later one has it. Lines of an earlier session end.
     fn begin(&mut self, joined: u64) {
         if let Some(last) = self.joined {
             if last >= joined {
@@ -51,12 +51,21 @@ impl Ends {
         }
         self.joined = Some(joined);
         self.is_over = false;
+        self.lines.iter().for_each(|line| line.close());
         self.lines.clear();
     }
 
     /// Whether both connections of this session stand.
     pub fn are_paired(&self, joined: u64) -> bool {
         self.joined == Some(joined) && self.lines.len() >= 2
+    }
+
+    /// The session's first line, until it has left.
+    pub fn first(&self, joined: u64) -> Option<Line> {
+        if self.joined != Some(joined) || self.is_over {
+            return None;
+        }
+        self.lines.first()?.try_clone().ok()
     }
 
     /// The session has left: its lines end.

@@ -1,7 +1,7 @@
 //! What stands behind the lock: the mainframe and its history, how its events are counted, and the notes of the last
 //! ones.
 
-ghost use Rattle.std.specs.Prelude.{◌≡◌, ◌==◌, ◌+◌, ◌<◌, ◌↔◌, ℕ, [], ◌∷◌, ◌++◌, not, IfOk, IfSome, IfNone, None, Some, true};
+ghost use Rattle.std.specs.Prelude.{◌≡◌, ◌==◌, ◌+◌, ◌<◌, ◌&&◌, ◌↔◌, ℕ, [], ◌∷◌, ◌++◌, not, IfOk, IfSome, IfNone, None, Some, true};
 ghost use mathlib.Core.List.{IsPrefix};
 ghost use Rattle.circular_buffer.specs.Buffer.{buffer, keep_last};
 ghost use Rattle.sw_core.specs.Opening.{IsFresh, IsReached};
@@ -10,6 +10,7 @@ ghost use Rattle.sw_core.specs.Seen.{work_seen, AskSession, SaysSession};
 ghost use Rattle.sw_cage.specs.Change.{any_failed};
 ghost use Rattle.sw_core.specs.Step.{Step};
 ghost use Rattle.sw_workers.specs.Board.{entry_of, reader};
+ghost use Rattle.sw_workers.specs.Closing.{EndsAtRest, is_unasked};
 ghost use Rattle.sw_workers.specs.Entries.{last_pair, made_by};
 ghost use Rattle.sw_workers.specs.Held.{notes_of, noted};
 ghost use Rattle.sw_workers.specs.History.{pair_of, event, said_at, grown, IsHistory, AsksInHistory, AwaitsEnd};
@@ -34,7 +35,7 @@ use std::marker::{Brand, Model};
 use std::sync::Wait;
 use std::sync::ledger::{Book, Ledger, Share};
 use sw_card::{Meter, Relay};
-use sw_core::{Answer, Ask, SessionAnswer, SessionAsk, Sid, Work};
+use sw_core::{Answer, Ask, SessionAnswer, SessionAsk, Sid, Work, runs_go_on};
 
 /// Which mainframe it is, to those who wait for it: that its end has begun is known only once nobody has to wait.
 pub trait Lasting {
@@ -81,10 +82,13 @@ pub struct Held<H: Mainframe, R: Relay, M: Meter> {
     /// Changes where something happened that may admit what was held, and where the end begins.
     turn: u64,
     closing: bool,
+    /// Every relay was opened and no scan runs, and no session has asked since.
+    at_rest: bool,
 }
 
 impl<H: Mainframe, R: Relay, M: Meter> Model for Held<H, R, M> {
     ghost use Rattle.std.specs.Prelude.{◌≡◌, ◌+◌, IfSome, true};
+    ghost use Rattle.sw_workers.specs.Closing.{EndsAtRest};
     ghost use Rattle.sw_workers.specs.Held.{Locked, most_notes, notes_of};
     ghost use Rattle.sw_workers.specs.History.{pair_of};
     ghost use Rattle.sw_workers.specs.Shares.{all_parts};
@@ -100,7 +104,8 @@ impl<H: Mainframe, R: Relay, M: Meter> Model for Held<H, R, M> {
 
     ghost invariant = { λ h. (h.core.panel.events ≡ H.first.events + h.events.total) × (H.parts ≡ all_parts)
         × IfSome h.spare (λ s. (s.parts + h.given ≡ all_parts) × (s.amount ≡ 0)) × (h.notes.capacity ≡ most_notes)
-        × (h.notes.items ≡ notes_of h.core.history) × (H.opening ≡ pair_of H.first) × (h.closing ≡ true → H.over) };
+        × (h.notes.items ≡ notes_of h.core.history) × (H.opening ≡ pair_of H.first) × (h.closing ≡ true → H.over)
+        × (h.at_rest ≡ true → EndsAtRest H.first h.core.history h.core.panel) };
 }
 
 /// What a desk has: one part of the ledger, with how many events are this desk's, and the desk's seat at the board.
@@ -180,6 +185,13 @@ fn count<H: Mainframe>(
     }
 }
 
+/// Whether what was at rest is so behind such an ask: no session asks it.
+fn rests_on<R: Relay, M: Meter>(at_rest: bool, ask: &Ask<R, M>) -> bool
+    ensures { result ≡ at_rest && is_unasked (ask_seen ask.now) }
+{
+    at_rest && !matches!(ask, Ask::Session(_))
+}
+
 impl<H: Mainframe, R: Relay, M: Meter> Held<H, R, M> {
     /// A mainframe with no desk and no event yet.
     pub fn new(
@@ -203,6 +215,7 @@ impl<H: Mainframe, R: Relay, M: Meter> Held<H, R, M> {
             notes,
             turn: 0,
             closing: false,
+            at_rest: false,
         })
     }
 
@@ -289,7 +302,7 @@ impl<H: Mainframe, R: Relay, M: Meter> Held<H, R, M> {
     }
 
     /// Notes whether what was held may go on.
-    fn take_turn(&mut self, may_go_on: bool)
+    pub(crate) fn take_turn(&mut self, may_go_on: bool)
         ensures { self.new ≡ record self.old {
           turn = turn_after self.old.turn may_go_on self.old.panel.events;
         } }
@@ -361,6 +374,21 @@ impl<H: Mainframe, R: Relay, M: Meter> Held<H, R, M> {
         self.closing
     }
 
+    /// Notes that every relay was opened, and that all is at rest where no scan runs.
+    pub(crate) fn note_opened(&mut self)
+        requires { self.old.panel.cage.scan ≡ None → EndsAtRest H.first self.old.history self.old.panel }
+        ensures { self.new ≡ self.old }
+    {
+        self.at_rest = !self.core.is_running();
+    }
+
+    /// Whether every relay was opened, and no session has asked since.
+    pub fn is_at_rest(&self) -> bool
+        ensures { result ≡ true → EndsAtRest H.first self.now.history self.now.panel }
+    {
+        self.at_rest
+    }
+
     /// The notes of the last 64 events, the oldest first.
     pub fn recent(&self) -> Result<Vec<Note>, AllocError>
         ensures { IfOk result (λ notes. notes.items ≡ notes_of self.now.history) }
@@ -388,8 +416,11 @@ impl<H: Mainframe, R: Relay, M: Meter> Held<H, R, M> {
         ensures notes { notes_of self.new.history ≡ noted (is_event (answer_seen result)) (notes_of self.old.history)
             (record { number = self.new.panel.events; ask = ask_kind (ask_seen ask) }) }
     {
+        runs_go_on();
+        self.core.has_history();
         let before = self.core.events();
         let kind = kind(&ask);
+        self.at_rest = rests_on(self.at_rest, &ask);
         let answer = self.core.ask(self.alloc, &mut part.seat, ask);
         if !is_event(&answer) {
             return answer;
@@ -434,6 +465,7 @@ impl<H: Mainframe, R: Relay, M: Meter> Held<H, R, M> {
     {
         let before = self.core.events();
         let kind = session_kind(&ask);
+        self.at_rest = false;
         self.core
             .ask_session(self.alloc, &mut part.seat, ask, answer, work);
         if !is_session_event(answer) {

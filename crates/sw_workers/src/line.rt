@@ -1,23 +1,38 @@
 //! Lines to clients: what several threads have of a connection.
 
-use libc::net::{POLLRDHUP, poll};
+use crate::keepalive::keep_alive;
+use libc::net::{POLLIN, POLLRDHUP, poll};
 use libc::types::pollfd;
 use std::alloc::{AllocError, Global};
 use std::io::{self, Read, Write};
 use std::net::{Shutdown, TcpStream};
 use std::os::fd::AsRawFd;
 use std::sync::Arc;
-use std::sync::atomic::{AtomicBool, Ordering};
+use std::sync::atomic::{AtomicBool, AtomicU8, Ordering};
 use std::time::Duration;
 
 /// How long a write waits at most for room, until its session has both connections, in milliseconds.
 const WRITE_MS: u64 = 10_000;
 
-/// A TCP connection, and whether no more is read from it.
+/// What a connection's thread does, as its other threads see it.
+#[derive(Clone, Copy, Debug, PartialEq, Eq)]
+enum Doing {
+    /// It serves what came.
+    Serves,
+    /// It reads.
+    Reads,
+    /// It writes.
+    Writes,
+    /// It waits for something else than its client: a lock, or the end of a scan.
+    Waits,
+}
+
+/// A TCP connection, whether no more is read from it, and what its thread does.
 #[derive(Drop)]
 struct Wire {
     stream: TcpStream,
     is_over: AtomicBool,
+    doing: AtomicU8,
 }
 
 /// A TCP connection, with one descriptor for all that have it. Each write is sent at once.
@@ -27,13 +42,16 @@ pub struct Line {
 }
 
 impl Line {
-    /// The line of this stream. A write that finds no room in time fails.
+    /// The line of this stream. A write that finds no room in time fails. A client that is gone without a word is
+    /// noticed, where the system can be asked for that.
     pub fn new(alloc: Global, stream: TcpStream) -> io::Result<Line> {
         stream.set_nodelay(true)?;
         stream.set_write_timeout(Some(Duration::from_millis(WRITE_MS)))?;
+        keep_alive(stream.as_raw_fd());
         let wire = Wire {
             stream,
             is_over: AtomicBool::new(false),
+            doing: AtomicU8::new(Doing::Serves as u8),
         };
         Ok(Line {
             wire: Arc::new(alloc, wire)?,
@@ -67,20 +85,47 @@ impl Line {
     /// Whether the client has ended the connection, or its half of it, or no more is read from it. It takes no bytes,
     /// and doesn't wait.
     pub fn has_ended(&self) -> bool {
-        if self.wire.is_over.load(Ordering::SeqCst) {
-            return true;
-        }
+        self.wire.is_over.load(Ordering::SeqCst) || self.has(POLLRDHUP)
+    }
+
+    /// Whether the system tells one of these events of the connection, or its end.
+    fn has(&self, events: i16) -> bool {
         let mut looks = [pollfd {
             fd: self.wire.stream.as_raw_fd(),
-            events: POLLRDHUP,
+            events,
             revents: 0,
         }];
         poll(&mut looks, 0) > 0
     }
 
+    /// Whether its thread has served all that has come, or waits for something else than its client.
+    pub fn is_served(&self) -> bool {
+        let doing = self.wire.doing.load(Ordering::SeqCst);
+        doing == Doing::Waits as u8 || (doing == Doing::Reads as u8 && !self.has(POLLIN))
+    }
+
+    /// Whether its thread writes, for which its client may have to read.
+    pub fn is_writing(&self) -> bool {
+        self.wire.doing.load(Ordering::SeqCst) == Doing::Writes as u8
+    }
+
+    /// Its thread waits for something else than its client, or no longer does.
+    pub fn note_wait(&self, waits: bool) {
+        self.note(if waits { Doing::Waits } else { Doing::Serves });
+    }
+
+    fn note(&self, doing: Doing) {
+        self.wire.doing.store(doing as u8, Ordering::SeqCst);
+    }
+
     /// Reads nothing more, whatever has come: a thread that reads goes on. Answers are still written.
     pub fn finish(&self) {
         self.wire.is_over.store(true, Ordering::SeqCst);
+        let _ = self.wire.stream.shutdown(Shutdown::Read);
+    }
+
+    /// Reads no more than what has come: a thread that waits for more comes to the end.
+    pub fn stop_reading(&self) {
         let _ = self.wire.stream.shutdown(Shutdown::Read);
     }
 
@@ -96,14 +141,20 @@ impl Read for Line {
             return Ok(0);
         }
         let mut stream: &TcpStream = &self.wire.stream;
-        stream.read(buffer)
+        self.note(Doing::Reads);
+        let read = stream.read(buffer);
+        self.note(Doing::Serves);
+        read
     }
 }
 
 impl Write for Line {
     fn write(&mut self, bytes: &[u8]) -> io::Result<usize> {
         let mut stream: &TcpStream = &self.wire.stream;
-        stream.write(bytes)
+        self.note(Doing::Writes);
+        let written = stream.write(bytes);
+        self.note(Doing::Serves);
+        written
     }
 
     fn flush(&mut self) -> io::Result<()> {

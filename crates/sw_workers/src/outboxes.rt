@@ -210,6 +210,11 @@ impl Outboxes {
         }
     }
 
+    /// The session's first line, until it has left.
+    pub fn first_line<W: Wait>(&self, rt: &W, sid: Sid) -> Option<Line> {
+        self.slot(sid)?.ends.lock(rt).first(sid.joined)
+    }
+
     /// The session has left, and its lines end.
     pub fn end<W: Wait>(&self, rt: &W, sid: Sid) {
         if let Some(slot) = self.slot(sid) {
@@ -368,6 +373,19 @@ impl Place {
             Some(line) => line.has_ended(),
             None => false,
         }
+    }
+
+    /// The thread of the desk waits for something else than its client, or no longer does.
+    pub fn note_wait<W: Wait>(&self, rt: &W, waits: bool) {
+        if let Some(line) = &self.served.lock(rt).line {
+            line.note_wait(waits);
+        }
+    }
+
+    /// The first line of the session that is served, until that has left.
+    pub fn first_line<W: Wait>(&self, rt: &W) -> Option<Line> {
+        let sid = self.session(rt)?;
+        self.outboxes.first_line(rt, sid)
     }
 
     /// Leaves bytes to the session's other thread, all of them or, where there is no room or no memory, none.

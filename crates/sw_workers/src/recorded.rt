@@ -4,7 +4,7 @@ ghost use Rattle.std.specs.Prelude.{◌≡◌, ◌<◌, ◌^◌, ◌↔◌, ℕ,
 ghost use mathlib.Core.List.{IsPrefix};
 ghost use Rattle.sw_status.specs.StatusModel.{summary_of};
 ghost use Rattle.sw_core.specs.Opening.{IsFresh, IsReached};
-ghost use Rattle.sw_core.specs.Panel.{Panel};
+ghost use Rattle.sw_core.specs.Panel.{Panel, is_running};
 ghost use Rattle.sw_core.specs.Step.{Step};
 ghost use Rattle.sw_core.specs.Seen.{ask_seen, answer_seen, failed_in, HandsBack, IsOwnAccount};
 ghost use Rattle.sw_core.specs.Seen.{work_seen, AskSession, SaysSession};
@@ -173,6 +173,13 @@ impl<B: Recording, R: Relay, M: Meter> Recorded<B, R, M> {
         ensures fresh { IsFresh B.first }
     {
         let _ = &self.core;
+    }
+
+    /// Whether a scan runs.
+    pub fn is_running(&self) -> bool
+        ensures { result ≡ is_running self.now.panel }
+    {
+        self.core.is_running()
     }
 
     /// The number of events.

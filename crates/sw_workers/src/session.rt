@@ -15,6 +15,7 @@ use crate::connection::Connection;
 use crate::desk::SharedDesk;
 use crate::gate::Gate;
 use crate::held::Mainframe;
+use crate::leaving::await_left;
 use crate::outboxes::Place;
 use crate::watched::Watched;
 use std::alloc::Global;
@@ -80,7 +81,8 @@ impl Sink for Nowhere {
     }
 }
 
-/// What a second channel reads from: before each read, what the first channel's thread left is written.
+/// What a second channel reads from: before each read, what the first channel's thread left is written; and its end
+/// comes once what had come on the first connection was served.
 #[derive(Drop)]
 struct Forwarding<'a, R: Source + Drop, A: Sink + Drop, W: Wait + Drop> {
     reader: R,
@@ -89,7 +91,7 @@ struct Forwarding<'a, R: Source + Drop, A: Sink + Drop, W: Wait + Drop> {
     rt: W,
 }
 
-impl<R: Source + Drop, A: Sink + Drop, W: Wait + Drop> Source for Forwarding<'_, R, A, W> {
+impl<R: Source + Drop, A: Sink + Drop, W: Wait + Clock + Drop> Source for Forwarding<'_, R, A, W> {
     ghost use Rattle.std.specs.Prelude.{◌⊎◌};
 
     ghost remaining = { λ s. R.remaining s.reader };
@@ -104,7 +106,11 @@ impl<R: Source + Drop, A: Sink + Drop, W: Wait + Drop> Source for Forwarding<'_,
                 return Err(Unread::Failed);
             }
         }
-        self.reader.receive(buffer)
+        let read = self.reader.receive(buffer);
+        if matches!(read, Ok(0) | Err(Unread::Failed)) {
+            await_left(&self.rt, self.place);
+        }
+        read
     }
 }
 

@@ -1,6 +1,6 @@
 //! The mainframe behind one lock, and what wakes those who wait for it.
 
-ghost use Rattle.std.specs.Prelude.{◌≡◌, ◌+◌, ◌≤◌, [], IfOk, IfSome, IfNone, None};
+ghost use Rattle.std.specs.Prelude.{◌≡◌, ◌+◌, ◌≤◌, [], IfErr, IfOk, IfSome, IfNone, None, sum_by};
 ghost use Rattle.std.specs.Vec.{vec_capacity};
 ghost use Rattle.sw_base.specs.Limits.{most_slots};
 ghost use Rattle.sw_cage.specs.Accounts.{accounts_of};
@@ -9,6 +9,7 @@ ghost use Rattle.sw_core.specs.Seen.{ask_seen, answer_seen, work_seen, AskSessio
 ghost use Rattle.sw_session.specs.CoreDesk.{piece_seen};
 ghost use Rattle.sw_workers.specs.Closing.{IsClosedDown};
 ghost use Rattle.sw_workers.specs.History.{pair_of};
+ghost use Rattle.sw_workers.specs.Opened.{OpensAll};
 ghost use Rattle.sw_workers.specs.Shares.{all_parts};
 ghost use Rattle.sw_workers.specs.Waits.{outcome_of};
 ghost use Rattle.sw_workers.specs.Work.{AsksOnce, ReadsStatus};
@@ -16,10 +17,12 @@ ghost use Rattle.sw_workers.specs.declared.shared.Woken.TheVariants.{Closing};
 
 use crate::available::AvailableRows;
 use crate::board::{BlankBoard, StatusBoard};
-use crate::closing::{Closed, take_cards};
+use crate::closing::{Closed, gather, take_cards};
+use crate::desk::SharedDesk;
 use crate::gate::Gate;
 use crate::held::{DeskPart, Held, Mainframe};
 use crate::note::Note;
+use crate::opening_relays::open_relays;
 use crate::outboxes::{Outboxes, Place};
 use crate::recorded::Recorded;
 use crate::slots::SeatSlots;
@@ -27,7 +30,7 @@ use crate::tried::lock_soon;
 use crate::work_channels::{WorkReceivers, WorkSenders, work_posts};
 use crossbeam_utils::CachePadded;
 use std::alloc::{AllocError, Global};
-use std::sync::ledger::{Blank, Share};
+use std::sync::ledger::Blank;
 use std::sync::{Arc, Condvar, Mutex, Wait};
 use std::time::{Clock, Duration};
 use sw_card::{Card, Meter, Relay};
@@ -211,6 +214,19 @@ impl<H: Mainframe, R: Relay, M: Meter, G: Gate + Drop> Shared<H, R, M, G> {
         self.available.follow(rt, seating, answer);
     }
 
+    /// Ends the scan that runs and opens every relay under one lock, and wakes those who wait. It gives the turn after
+    /// that.
+    pub fn open_all<W: Wait>(&self, rt: &W, part: &mut DeskPart<H>) -> u64
+        ensures { OpensAll H.first part.new }
+    {
+        let mut guard = lock_soon(&self.held, rt);
+        open_relays(&mut guard, part);
+        let turn = guard.turn();
+        drop(guard);
+        self.happened.notify_all();
+        turn
+    }
+
     /// Sends a piece of work to its worker, or hands it back.
     pub fn send<W: Wait + Clock>(&self, rt: &W, piece: Work<M>) -> Option<Work<M>>
         ensures sent { IfNone result (H.sent (piece_seen piece)) }
@@ -281,32 +297,34 @@ impl<H: Mainframe, R: Relay, M: Meter, G: Gate + Drop> Shared<H, R, M, G> {
         drop(ended);
     }
 
-    /// The share that no desk has, once, where there are so many desks.
-    pub fn take_spare<W: Wait>(&self, rt: &W, desks: u64) -> Option<Share<H>>
-        ensures { IfSome result (λ spare. (spare.parts + desks ≡ all_parts) × (spare.amount ≡ 0)) }
-    {
-        self.held.lock(rt).take_spare(desks)
-    }
-
-    /// The end, to whom has every part. Under one lock it tells the number of events, the opening one and all that was
-    /// counted, and takes the cards out of their slots, with nothing closed.
-    pub fn close_down<W: Wait>(
+    /// The end, to whom gives every desk back, where all is at rest: under one lock it tells the number of events, the
+    /// opening one and all that was counted, and takes the cards out of their slots, with nothing closed. Else the desks
+    /// are handed back.
+    pub fn close_down<W: Wait + Clock + Copy + Drop>(
         &self,
         rt: &W,
-        all: Share<H>,
+        desks: Vec<SharedDesk<H, R, M, G, W>>,
         room: Vec<Option<Card<R, M>>>,
-    ) -> Closed<R, M>
-        requires parts { all.parts ≡ all_parts }
+    ) -> Result<Closed<R, M>, Vec<SharedDesk<H, R, M, G, W>>>
         requires room { (room.items ≡ []) × (most_slots ≤ vec_capacity room) }
-        ensures events { result.events ≡ H.first.events + all.amount }
-        ensures cards { IsClosedDown H.first result.events (accounts_of result.cards.items) }
+        ensures events { IfOk result (λ closed.
+            closed.events ≡ H.first.events + sum_by (λ desk. desk.part.amount) desks.items) }
+        ensures cards { IfOk result (λ closed.
+            IsClosedDown H.first closed.events (accounts_of closed.cards.items)) }
+        ensures back { IfErr result (λ back. back.items ≡ desks.items) }
     {
-        let mut all = all;
         let mut held = self.held.lock(rt);
+        if !held.is_at_rest() {
+            return Err(desks);
+        }
+        let Some(spare) = held.take_spare(desks.len() as u64) else {
+            return Err(desks);
+        };
         held.has_history();
+        let mut all = gather(spare, desks);
         let events = held.number(&mut all);
         let mut part = held.last_part(all.split_off(1, 0));
         let cards = take_cards(&mut held, &mut part, room);
-        Closed { events, cards }
+        Ok(Closed { events, cards })
     }
 }

@@ -35,12 +35,24 @@ fn spread(alloc: Global) -> Option<Core<Mux<SimDriver>, Volt<SimSource>>>
     None
 }
 
+/// How a mainframe is closed down.
+#[derive(Clone, Copy, PartialEq, Eq)]
+enum Ending {
+    /// Every relay is opened first.
+    Opened,
+    /// A session asks once more behind that.
+    AskedSince,
+    /// Nothing is opened.
+    Unopened,
+}
+
 /// Closes a mainframe down that no worker serves, after a session told it this.
 fn closed_after<H: Mainframe, R: Relay, M: Meter, W: Wait + Clock + Copy + Drop>(
     rt: W,
     alloc: Global,
     opening: Opening<R, M>,
     message: &[u8],
+    ending: Ending,
 ) -> Option<Closed<R, M>>
     requires first { (opening.core ≡ H.first) × IsFresh opening.core }
     requires ledger { (opening.blank.name ≡ H.name) × (opening.blank.parts ≡ H.parts) }
@@ -51,11 +63,15 @@ fn closed_after<H: Mainframe, R: Relay, M: Meter, W: Wait + Clock + Copy + Drop>
     let mut desk = SharedDesk::open(rt, &shared)?;
     let sid = join(&mut desk)?;
     let is_done = tells(alloc, &mut desk, sid, message, b"");
+    if ending != Ending::Unopened {
+        desk.open_all();
+    }
+    let is_asked = ending != Ending::AskedSince || tells(alloc, &mut desk, sid, b"*CLS", b"");
     let mut desks = Vec::new(alloc);
     desks.push(desk).ok()?;
     let closed = close_down(&rt, alloc, shared, desks).ok()?;
     drop(receivers);
-    if is_done {
+    if is_done && is_asked {
         return Some(closed);
     }
     None
@@ -68,13 +84,14 @@ fn leaves<W: Wait + Clock + Copy + Drop>(
     core: Core<Mux<SimDriver>, Volt<SimSource>>,
     message: &[u8],
     serials: &[u32; 16],
+    ending: Ending,
 ) -> bool
     requires { IsFresh core }
 {
     let Ok(opening) = Opening::new(alloc, core) else {
         return false;
     };
-    match closed_after::<Brand, _, _, W>(rt, alloc, opening, message) {
+    match closed_after::<Brand, _, _, W>(rt, alloc, opening, message, ending) {
         Some(closed) => come_out(&closed, serials),
         None => false,
     }
@@ -85,7 +102,16 @@ fn each_card_comes_out_at_the_place_of_its_slot(rt: HostRuntime) {
     let serials = [1, 0, 3, 0, 0, 0, 0, 0, 0, 0, 0, 0, 0, 0, 0, 16];
     match spread(rt.alloc()) {
         Some(core) => {
-            assert!(rt; leaves(rt, rt.alloc(), core, b"ROUT:CLOS (@1!1,3!2)", &serials))
+            assert!(rt;
+                leaves(
+                    rt,
+                    rt.alloc(),
+                    core,
+                    b"ROUT:CLOS (@1!1,3!2)",
+                    &serials,
+                    Ending::Opened
+                )
+            )
         }
         None => assert!(rt; false),
     }
@@ -96,8 +122,34 @@ fn a_meter_that_measures_leaves_its_place_empty(rt: HostRuntime) {
     let serials = [1, 0, 0, 0, 0, 0, 0, 0, 0, 0, 0, 0, 0, 0, 0, 0];
     match fitted(rt.alloc(), SimDriver::new(), SimSource::new(1, 1)) {
         Some(core) => {
-            assert!(rt; leaves(rt, rt.alloc(), core, b"ROUT:SCAN (@1!1);:INIT", &serials))
+            assert!(rt;
+                leaves(
+                    rt,
+                    rt.alloc(),
+                    core,
+                    b"ROUT:SCAN (@1!1);:INIT",
+                    &serials,
+                    Ending::Opened
+                )
+            )
         }
         None => assert!(rt; false),
     }
+}
+
+/// Whether a mainframe of which a channel was closed is closed down by such an ending.
+fn ends_by<W: Wait + Clock + Copy + Drop>(rt: W, alloc: Global, ending: Ending) -> bool {
+    let serials = [1, 0, 3, 0, 0, 0, 0, 0, 0, 0, 0, 0, 0, 0, 0, 16];
+    match spread(alloc) {
+        Some(core) => leaves(rt, alloc, core, b"ROUT:CLOS (@1!1)", &serials, ending),
+        None => false,
+    }
+}
+
+#[test]
+fn a_mainframe_is_closed_down_only_at_rest(rt: HostRuntime) {
+    let is_opened = ends_by(rt, rt.alloc(), Ending::Opened);
+    let is_asked_since = ends_by(rt, rt.alloc(), Ending::AskedSince);
+    let is_unopened = ends_by(rt, rt.alloc(), Ending::Unopened);
+    assert!(rt; is_opened && !is_asked_since && !is_unopened);
 }

@@ -42,16 +42,49 @@ impl<W: Wait + Copy + Drop> Clock for Slept<'_, W> {
     }
 }
 
-/// A scan of two readings, each behind a pause of 50 milliseconds, and what is answered once it is over.
-const PAUSED: &[u8] = b"ROUT:SCAN (@1!1);:TRIG:COUN 2;DEL 0.05;:INIT;*OPC?;:TRAC:POIN:ACT?";
+/// A scan to its end, whose pauses take time.
+#[derive(Clone, Copy)]
+pub enum Paused {
+    /// Two readings, each behind a pause of TRIGger of 50 milliseconds.
+    Delayed,
+    /// Three readings of a position that settles for 20 milliseconds each time.
+    Settled,
+}
 
-const PAUSED_TOLD: &[u8] = b"1;2\n";
+impl Paused {
+    fn message(self) -> &'static [u8] {
+        match self {
+            Paused::Delayed => {
+                b"ROUT:SCAN (@1!1);:TRIG:COUN 2;DEL 0.05;:INIT;*OPC?;:TRAC:POIN:ACT?"
+            }
+            Paused::Settled => {
+                b"ROUT:SCAN (@1!1);:ROUT:CHAN:DEL 0.02;:TRIG:COUN 3;:INIT;*OPC?;:TRAC:POIN:ACT?"
+            }
+        }
+    }
+
+    /// What is answered once it is over.
+    fn told(self) -> &'static [u8] {
+        match self {
+            Paused::Delayed => b"1;2\n",
+            Paused::Settled => b"1;3\n",
+        }
+    }
+
+    /// How long its pauses take together, in microseconds.
+    fn micros(self) -> u64 {
+        match self {
+            Paused::Delayed => 100_000,
+            Paused::Settled => 60_000,
+        }
+    }
+}
 
 /// What is played by the desks of a mainframe that has no worker.
-#[derive(Clone, Copy, Debug)]
+#[derive(Clone, Copy)]
 enum Alone {
     /// A scan comes to its end.
-    Ends,
+    Ends(Paused),
     /// The limit of a wait runs out.
     RunsOut,
 }
@@ -76,18 +109,18 @@ fn goes_alone<H: Mainframe, R: Relay, M: Meter, W: Wait + Clock + Copy + Drop>(
     };
     let first = SharedDesk::open(rt, &shared);
     match alone {
-        Alone::Ends => ends_by(alloc, first),
+        Alone::Ends(scan) => ends_by(alloc, first, scan),
         Alone::RunsOut => runs_out_by(alloc, first, SharedDesk::open(rt, &shared)),
     }
 }
 
 /// Whether the scan comes to its end by this desk.
-fn ends_by<D: Desk + Drop>(alloc: Global, desk: Option<D>) -> bool {
+fn ends_by<D: Desk + Drop>(alloc: Global, desk: Option<D>, scan: Paused) -> bool {
     let Some(mut desk) = desk else {
         return false;
     };
     match join(&mut desk) {
-        Some(sid) => tells(alloc, &mut desk, sid, PAUSED, PAUSED_TOLD),
+        Some(sid) => tells(alloc, &mut desk, sid, scan.message(), scan.told()),
         None => false,
     }
 }
@@ -155,7 +188,8 @@ fn gone_on<W: Wait + Copy + Drop>(rt: W, alloc: Global, step: u64, alone: Alone)
 
 #[test]
 fn a_pause_that_no_worker_takes_is_waited_out_by_who_began_it(rt: HostRuntime) {
-    assert!(rt; gone_on(rt, rt.alloc(), 0, Alone::Ends) == Some(100_000));
+    assert!(rt; gone_on(rt, rt.alloc(), 0, Alone::Ends(Paused::Delayed)) == Some(100_000));
+    assert!(rt; gone_on(rt, rt.alloc(), 0, Alone::Ends(Paused::Settled)) == Some(60_000));
 }
 
 #[test]
@@ -167,6 +201,7 @@ fn a_limit_runs_out_by_the_clock(rt: HostRuntime) {
 pub fn lasts<D: Desk + Drop + Send + 'static, C: Clock>(
     clock: &C,
     alloc: Global,
+    scan: &Paused,
     first: D,
     second: D,
     third: D,
@@ -174,9 +209,9 @@ pub fn lasts<D: Desk + Drop + Send + 'static, C: Clock>(
     let mut first = first;
     let sid = join(&mut first)?;
     let begin = Instant::now(clock).ok()?;
-    let is_told = tells(alloc, &mut first, sid, PAUSED, PAUSED_TOLD);
+    let is_told = tells(alloc, &mut first, sid, scan.message(), scan.told());
     let end = Instant::now(clock).ok()?;
-    if is_told && end.saturating_duration_since(begin) >= Duration::from_millis(100) {
+    if is_told && end.saturating_duration_since(begin) >= Duration::from_micros(scan.micros()) {
         return Some((first, second, third));
     }
     None
@@ -185,7 +220,13 @@ pub fn lasts<D: Desk + Drop + Send + 'static, C: Clock>(
 #[test]
 fn a_pause_lasts_as_long_as_it_is_to(rt: HostRuntime) {
     let source = SimSource::new(1, 1);
-    assert!(rt; played(rt, rt.alloc(), source, Open, &Scene::Lasts).is_some());
+    assert!(rt; played(rt, rt.alloc(), source, Open, &Scene::Lasts(Paused::Delayed)).is_some());
+}
+
+#[test]
+fn each_position_settles_as_long_as_it_is_to(rt: HostRuntime) {
+    let source = SimSource::new(1, 1);
+    assert!(rt; played(rt, rt.alloc(), source, Open, &Scene::Lasts(Paused::Settled)).is_some());
 }
 
 /// A pause of an hour that was aborted, and a shorter one of the next scan.

@@ -1,7 +1,7 @@
 //! A mainframe that several threads share: what is asked while a worker is held, what a lock holds, what is seen of a
 //! session's status, and what closing it down gives.
 
-use crate::lasting::{goes_far, lasts};
+use crate::lasting::{Paused, goes_far, lasts};
 use crate::latches::{Latch, LatchedDriver, LatchedGate, LatchedSource, SharedLatch, turn};
 use crate::notes::{is_succeeded, looks};
 use crate::shop::{comes_to_tell, join, locks, played, played_by, releases, tells};
@@ -32,7 +32,7 @@ pub enum Scene<C: Clock + Drop> {
     Together,
     Missed,
     UsedUp,
-    Lasts,
+    Lasts(Paused),
     Far,
     Succeeded,
     Undisturbed,
@@ -58,7 +58,7 @@ impl<W: Threads + Wait + Clock + Copy + Drop + Send + Sync + 'static> Scene<W> {
             Scene::Together => go_on_together(rt, alloc, first, second, third),
             Scene::Missed => misses_no_wake(alloc, first, second, third),
             Scene::UsedUp => uses_its_limit_up(rt, alloc, first, second, third),
-            Scene::Lasts => lasts(&rt, alloc, first, second, third),
+            Scene::Lasts(scan) => lasts(&rt, alloc, scan, first, second, third),
             Scene::Far => goes_far(alloc, first, second, third),
             Scene::Succeeded => is_succeeded(first, second, third),
             Scene::Undisturbed => is_undisturbed(alloc, first, second, third),
@@ -71,11 +71,12 @@ impl<W: Threads + Wait + Clock + Copy + Drop + Send + Sync + 'static> Scene<W> {
     }
 }
 
-/// A scan begins, and what it awaits goes on only once two sessions were answered.
+/// A scan begins, and what it awaits goes on only once two sessions were answered, one of them what OPERation tells.
 #[derive(Drop)]
 pub struct Meanwhile<C: Clock + Drop> {
     latch: SharedLatch<C>,
     begin: &'static [u8],
+    told: &'static [u8],
 }
 
 impl<C: Clock + Drop> Meanwhile<C> {
@@ -91,7 +92,7 @@ impl<C: Clock + Drop> Meanwhile<C> {
     ) -> bool {
         tells(alloc, desk, sid, self.begin, b"")
             && self.latch.is_reached()
-            && tells(alloc, other, other_sid, b"*STB?", b"0\n")
+            && tells(alloc, other, other_sid, b"STAT:OPER:COND?", self.told)
             && tells(alloc, desk, sid, b"*STB?", b"0\n")
             && self.latch.opens()
             && comes_to_tell(alloc, clock, other, other_sid, b"TRAC:POIN:ACT?", b"1\n")
@@ -124,6 +125,8 @@ const READS: &[u8] = b"ROUT:SCAN (@1!1);:INIT";
 
 const PAUSES: &[u8] = b"ROUT:SCAN (@1!1);:TRIG:DEL 0.001;:INIT";
 
+const SETTLES: &[u8] = b"ROUT:SCAN (@1!1);:ROUT:CHAN:DEL 0.001;:INIT";
+
 #[test]
 fn sessions_are_answered_while_a_reading_is_held_at_the_gate(rt: HostRuntime) -> Result<(), Fail> {
     let latch = Latch::new(rt.alloc(), rt)?;
@@ -134,6 +137,7 @@ fn sessions_are_answered_while_a_reading_is_held_at_the_gate(rt: HostRuntime) ->
     let scene = Scene::Meanwhile(Meanwhile {
         latch,
         begin: READS,
+        told: b"16\n",
     });
     assert!(rt; played(rt, rt.alloc(), SimSource::new(1, 1), gate, &scene).is_some());
     Ok(())
@@ -151,6 +155,7 @@ fn sessions_are_answered_while_a_reading_is_held_inside_its_source(
     let scene = Scene::Meanwhile(Meanwhile {
         latch,
         begin: READS,
+        told: b"16\n",
     });
     assert!(rt; played(rt, rt.alloc(), source, Open, &scene).is_some());
     Ok(())
@@ -166,6 +171,23 @@ fn sessions_are_answered_while_a_pause_is_held_at_the_gate(rt: HostRuntime) -> R
     let scene = Scene::Meanwhile(Meanwhile {
         latch,
         begin: PAUSES,
+        told: b"0\n",
+    });
+    assert!(rt; played(rt, rt.alloc(), SimSource::new(1, 1), gate, &scene).is_some());
+    Ok(())
+}
+
+#[test]
+fn sessions_are_answered_while_a_position_settles(rt: HostRuntime) -> Result<(), Fail> {
+    let latch = Latch::new(rt.alloc(), rt)?;
+    let gate = LatchedGate {
+        point: Point::Pause,
+        latch: latch.clone()?,
+    };
+    let scene = Scene::Meanwhile(Meanwhile {
+        latch,
+        begin: SETTLES,
+        told: b"2\n",
     });
     assert!(rt; played(rt, rt.alloc(), SimSource::new(1, 1), gate, &scene).is_some());
     Ok(())

@@ -1,12 +1,12 @@
 //! A scan that runs: its code, and where it stands in it.
 
-ghost use Rattle.std.specs.Prelude.{◌≡◌, ◌+◌, ◌<◌, ◌≤◌, drop, length, ◌↔◌, IsTrue};
+ghost use Rattle.std.specs.Prelude.{◌≡◌, ◌+◌, ◌<◌, ◌≤◌, drop, length, ◌↔◌, IsTrue, Some};
 ghost use Rattle.sw_verify.specs.Course.{source_at};
 ghost use Rattle.sw_base.specs.Limits.{most_slots};
 ghost use Rattle.sw_cage.specs.Advance.{awaits};
 ghost use Rattle.sw_cage.specs.Cage.{ticket_of};
 ghost use Rattle.sw_cage.specs.Steps.{next_move};
-ghost use Rattle.sw_cage.specs.Takes.{TakesIf, TakesWait, TakesPeriod, TakesPause, AwaitsReturn};
+ghost use Rattle.sw_cage.specs.Takes.{TakesIf, TakesWait, TakesPeriod, TakesPause, AwaitsReturn, awaited_after};
 
 pub(crate) mod machine;
 mod steps;
@@ -68,6 +68,16 @@ impl Scan {
         ensures { result ≡ awaits self.now }
     {
         awaited(self.code.steps(), &self.at)
+    }
+
+    /// What the scan awaits right after what it awaits now; nothing, where it moves relays first, or is over.
+    pub(crate) fn awaited_after(&self) -> Option<Awaited>
+        ensures { result ≡ awaited_after (Some self.now) }
+    {
+        self.awaited()?;
+        let mut at = self.at;
+        go_past(self.code.steps(), &mut at);
+        awaited(self.code.steps(), &at)
     }
 
     /// What the scan opens or closes next; nothing, where it awaits something or is over.

@@ -3,7 +3,7 @@
 ghost use Rattle.std.specs.Prelude.{◌≡◌, Err, OnErr};
 ghost use Rattle.sw_hislip.specs.Wire.{wire};
 ghost use Rattle.sw_session.specs.Engine.{session_of};
-ghost use Rattle.sw_session.specs.ServeHand.{Hands, HandsOne, notes_before, is_last_part};
+ghost use Rattle.sw_session.specs.ServeHand.{Hands, HandsOne, notes_before, is_answer_part};
 ghost use Rattle.sw_session.specs.ServeWrite.{is_own};
 ghost use Rattle.sw_session.specs.Server.{voice_of, stands, StaysServer, WriteFails};
 ghost use Rattle.sw_session.specs.Trace.{Leads};
@@ -26,19 +26,20 @@ fn is_own(own: Channel, other: Channel) -> bool
     }
 }
 
-/// Whether a message is the last part of an answer.
-fn is_last_part(kind: Kind) -> bool
-    ensures { result ≡ is_last_part kind }
+/// Whether a message is a part of an answer.
+fn is_answer_part(kind: Kind) -> bool
+    ensures { result ≡ is_answer_part kind }
 {
-    matches!(kind, Kind::DataEnd)
+    matches!(kind, Kind::Data | Kind::DataEnd)
 }
 
-/// Notes that a message is available for the engine's session, where this is the last part of an answer.
+/// Notes that a message is available for the engine's session, where this is a part of an answer: the write that
+/// follows may wait for a client that waits for this note.
 fn note<D: Desk>(engine: &Engine, sent: &Sent, desk: &mut D)
     ensures { Leads D.passes desk.old (notes_before (session_of engine.now.state) sent.now) desk.new }
 {
     if let Some(sid) = engine.session() {
-        if is_last_part(sent.message.kind) {
+        if is_answer_part(sent.message.kind) {
             desk.note(sid, true);
         }
     }
@@ -46,7 +47,7 @@ fn note<D: Desk>(engine: &Engine, sent: &Sent, desk: &mut D)
 
 impl<W: Sink, S: Sink, D: Desk> ChannelServer<'_, '_, '_, '_, W, S, D> {
     /// Hands the bytes of a message to the writer of its channel: all of them, or a front part where that fails. Before
-    /// the last part of an answer it notes that a message is available.
+    /// each part of an answer it notes that a message is available.
     fn hand_over(&mut self, sent: &Sent, bytes: &[u8]) -> Result<(), Unwritten>
         requires { bytes.now ≡ wire sent.now.message }
         ensures hands { HandsOne (voice_of D.passes self.old) (stands W.Sink S.Sink self.old)

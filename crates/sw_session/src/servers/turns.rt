@@ -44,12 +44,15 @@ fn listen<R: Source>(
     ensures pauses { CountsReceived (R.pauses reader.old) (R.pauses reader.new) result }
     ensures read { result ≡ Err ServeFault.Read → IsLedTo R.failed reader.new }
 {
-    match reader.receive(&mut rooms.heard) {
+    let heard = rooms.heard();
+    match reader.receive(heard) {
         Ok(n) => {
             if n == 0 {
                 return Ok(Received::End);
             }
-            match decoder.feed(&rooms.heard[..n]) {
+            let fed = decoder.feed(&heard[..n]);
+            rooms.note_read(n);
+            match fed {
                 Ok(()) => Ok(Received::Bytes),
                 Err(_) => Err(ServeFault::NoMemory),
             }

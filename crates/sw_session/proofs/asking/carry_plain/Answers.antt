@@ -1,6 +1,10 @@
-use Rattle.sw_session.proofs.BeginsLemmas.{begins-scan}
+use Rattle.sw_session.proofs.BeginsLemmas.{begins-scan, begins-read}
 use Rattle.sw_session.proofs.asking.carry_plain.Goals as goal
 
 pub returns-in-Initiate : goal.returns-in-Initiate
 returns-in-Initiate g c =
     rw c.in-Initiate.is (begins-scan g.D.Desk.passes c.args.sid _ _ c.args.answered c.initiate.result c.args.macros.now c.initiate.ensures)
+
+pub returns-in-Read : goal.returns-in-Read
+returns-in-Read g c =
+    rw c.in-Read.is (begins-read g.D.Desk.passes c.args.sid _ _ c.args.answered c.read.result c.args.macros.now c.read.ensures)

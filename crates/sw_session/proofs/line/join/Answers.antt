@@ -1,6 +1,7 @@
-use Rattle.std.proofs.Common.{◌≡◌, ◌∙◌, sym, ap, subst, decimal, List, ℕ}
+use Rattle.std.proofs.Common.{◌≡◌, ◌∙◌, sym, ap, subst, decimal, map, List, ℕ}
+use Rattle.std.specs.List.{join_with_byte}
 use Rattle.std.specs.Prelude.{OnOk}
-use Rattle.sw_base.specs.Reading.{fixed}
+use Rattle.sw_base.specs.Reading.{fixed, reading_text}
 use Rattle.sw_core.specs.AnswerText.{form_text}
 use Rattle.sw_core.specs.Answers.{entry_told}
 use Rattle.sw_session.specs.Talk.{JoinsLine}
@@ -30,3 +31,8 @@ pub returns-in-Bytes-clause-ok : goal.returns-in-Bytes-clause-ok
 returns-in-Bytes-clause-ok c =
     let is : c.in-Bytes.text ≡ c.args.text = sym (ap form_text c.in-Bytes.is) ∙ c.into_form.ensures in
     subst (λ (t : List ℕ). OnOk c.join_bytes.result (JoinsLine c.args.out.now.items t c.join_bytes.new.out.items)) is c.join_bytes.ensures.ok
+
+pub returns-in-Readings-clause-ok : goal.returns-in-Readings-clause-ok
+returns-in-Readings-clause-ok c =
+    let is : join_with_byte 44 (map reading_text c.in-Readings.readings) ≡ c.args.text = sym (ap form_text c.in-Readings.is) ∙ c.into_form.ensures in
+    subst (λ (t : List ℕ). OnOk c.join_readings.result (JoinsLine c.args.out.now.items t c.join_readings.new.out.items)) is c.join_readings.ensures.ok

@@ -13,7 +13,7 @@ returns c =
     let trigger = layer_same c.ne-else-ne.result a.trigger b.trigger c.ne-else-ne.ensures c.if-ne-2.false in
     let list = positions_decide c.as_slice.result.now c.as_slice-2.result.now c.eq.result c.eq.ensures in (
       λ t. sym c.self.view_is ∙ same_setup a b arms trigger (sym c.as_slice.ensures.value ∙ list.0 (cc)
-          ∙ c.as_slice-2.ensures.value) c.if-self-other.false c.if-self-other-2.false ∙ c.other.view_is,
+          ∙ c.as_slice-2.ensures.value) c.if-self-other.false c.if-self-other-2.false c.if-self-other-3.false ∙ c.other.view_is,
       λ e. let same : a.list ≡ b.list = ap (λ (v : SettingsSeen). v.list) (c.self.view_is ∙ e ∙ sym c.other.view_is) in
           list.1 (c.as_slice.ensures.value ∙ same ∙ sym c.as_slice-2.ensures.value),
     )

@@ -48,4 +48,4 @@ invariant_of-self-2 g c =
     let b = is_counted p answer in
     let counted : q ≡ p + one_if b = search (rules, step_counted) in
     let up = counted_apart p q _ _ b c.events-before.ensures c.events-number.ensures counted in
-    (omega (arith, up, counted, i.0, c.count.ensures.events), i.1, i.2, ring.0, ring.1, i.5, i.6)
+    (omega (arith, up, counted, i.0, c.count.ensures.events), i.1, i.2, ring.0, ring.1, i.5, i.6, (λ at. absurd (cc at)))
