@@ -6,17 +6,18 @@
 #             port; ADDRESS=192.168.1.5: at that address, for whoever reaches it.
 # make try-serve: likewise by the unproved program.
 # make test:  the whole gate.
+# make tests: tries the program that is built, without any proof; PART=clients: by one part (a folder of tests).
 # make wrong: tries every wrong body, whatever is recorded of it.
 # make check CRATE=sw_lex: proves one crate.
 # make bench: times the program on each workload; NAME=lists: on one.
 # make bench-serve: times sessions over the network, against a bare echo in the same run.
-# make soak:  sixteen sessions at work for some rounds, with a watcher, and hostile streams; ROUNDS=100: so many rounds.
+# make soak:  sixteen sessions at work for some rounds, with a watcher, and hostile streams; ROUNDS=100: a hundred.
 RT ?= rt
 export RT
 
 AT = --address $(or $(ADDRESS),127.0.0.1) --port $(or $(PORT),4880)
 
-.PHONY: prove run serve try try-serve test wrong check talks bench bench-serve soak
+.PHONY: prove run serve try try-serve test wrong check tests bench bench-serve soak
 
 prove:
 	@build/program prove $(CRATE)
@@ -36,8 +37,8 @@ wrong:
 check:
 	@cd crates/$(CRATE) && $(RT) check
 
-talks:
-	@talks/run crates/mainframe/out/mainframe
+tests:
+	@tests/run crates/mainframe/out/mainframe $(PART)
 
 bench:
 	@bench/run $(NAME)
@@ -47,5 +48,5 @@ bench-serve:
 	@bench/status crates/mainframe/out/mainframe
 
 soak:
-	@bench/soak crates/mainframe/out/mainframe $(ROUNDS)
-	@bench/hostile crates/mainframe/out/mainframe
+	@tests/soak/run crates/mainframe/out/mainframe $(if $(ROUNDS),--rounds $(ROUNDS))
+	@tests/hostile/run crates/mainframe/out/mainframe --streams 500

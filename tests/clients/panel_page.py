@@ -11,9 +11,11 @@ import sys
 import tempfile
 
 import panel
-from served import PATIENCE, Failure, Served, same, wait_until
 
-HERE = pathlib.Path(__file__).resolve().parent.parent
+from support import EXAMPLES
+from support.checking import PATIENCE, Failure, same, wait_until
+from support.server import Served
+
 AT_REST = "no scan runs, or one pauses"
 AWAITS_TRIGGER = "waits for a trigger (`*TRG`) in the TRIGger layer"
 BROWSERS = ("chromium", "chromium-browser", "google-chrome")
@@ -23,7 +25,7 @@ class Page:
     """The panel as a process."""
 
     def __init__(self, port, *words):
-        arguments = [sys.executable, HERE / "panel.py", "--port", str(port), "--page", "0", *words]
+        arguments = [sys.executable, EXAMPLES / "panel.py", "--port", str(port), "--page", "0", *words]
         self.process = subprocess.Popen(arguments, stdout=subprocess.PIPE, text=True)
         self.port = int(re.search(r"127\.0\.0\.1:(\d+)/", self.process.stdout.readline())[1])
 
@@ -57,7 +59,7 @@ def page_of(port, *words):
 
 
 def the_page_is_served(program):
-    """The page draws the slots that it is told of, answers a GET alone, and is to be had on loopback alone."""
+    """The page draws the slots that its command line names, answers a GET alone, and is to be had on loopback alone."""
     with Served(program) as served, page_of(served.port, "--cards", "2=matrix:16,7=mux:3:5") as page:
         status, text = page.ask("/")
         same("status", status, 200)
@@ -136,7 +138,7 @@ def the_button_takes_the_errors(program):
 
 
 def drawn(browser, page):
-    """The page as a browser draws it after two seconds: the ids of lit channels, and the text of each part by its id."""
+    """The page as a browser draws it after two seconds: the ids of lit channels, and each part's text by its id."""
     with tempfile.TemporaryDirectory() as profile:
         words = [browser, "--headless", "--no-sandbox", "--disable-gpu", f"--user-data-dir={profile}",
                  "--virtual-time-budget=2000", "--dump-dom", f"http://127.0.0.1:{page.port}/"]
@@ -163,12 +165,13 @@ def a_browser_draws_the_page(program):
         lit, texts = drawn(browser, page)
         same("lit channels", lit, ["2!3"])
         told = {"state": "connected", "doing": AWAITS_TRIGGER, "count": "1", "errors": "1", "status": "4",
-                "fault": "no", "taken": '-221,"Settings conflict"', "low": "1 V", "high": "", "first": "reading 1", "last": ""}
+                "fault": "no", "taken": '-221,"Settings conflict"', "low": "1 V", "high": "", "first": "reading 1",
+                "last": ""}
         same("texts", {name: texts.get(name) for name in told}, told)
 
 
 def the_panel_outlives_a_lock(program):
-    """It tells that another session holds the lock, and goes on when that is free."""
+    """It tells that another session holds the lock, and continues when that is free."""
     with Served(program) as served, served.join() as mainframe, page_of(served.port) as page:
         page.comes_to_show(state="connected", status=0)
         same("lock", mainframe.lock(0), 1)

@@ -1,6 +1,5 @@
 """`examples/raw_socket.py` before a served program: plain sockets, and clients of others where they are installed."""
 import contextlib
-import pathlib
 import shutil
 import socket
 import struct
@@ -8,9 +7,13 @@ import subprocess
 import sys
 import threading
 
-from served import IDENTITY, PATIENCE, SOON, Failure, Served, check_end, same, wait_until, within
+from support import EXAMPLES
+from support.checking import PATIENCE, SOON, Failure, same, wait_until, within
+from support.hislip import check_end
+from support.scpi import IDENTITY
+from support.server import Served
 
-DOOR = pathlib.Path(__file__).resolve().parent.parent / "raw_socket.py"
+DOOR = EXAMPLES / "raw_socket.py"
 MANY = 2_000  # lines that a client sends before it reads
 SYSTEM_PYTHON = "/usr/bin/python3"  # for which Debian's packages are
 PYVISA = """

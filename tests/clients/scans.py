@@ -2,11 +2,15 @@
 import threading
 import time
 
-from client import NO_ERROR, session
-from served import Failure, same, wait_until
 from swm import ScanError
 
-CONFLICT, IGNORED = '-221,"Settings conflict"', '-213,"Init ignored"'
+from support.checking import Failure, same, wait_until
+from support.scpi import CONFLICT, NO_ERROR
+from support.sessions import session
+
+IGNORED = '-213,"Init ignored"'
+
+
 STALE = '-230,"Data corrupt or stale"'
 THREE = "*RST;:ROUT:SCAN (@1!1,2!1);:TRIG:COUN 3"
 BY_BUS = "*RST;:ROUT:SCAN (@1!1);:TRIG:SOUR BUS"
@@ -20,7 +24,7 @@ def raises(call, wanted):
     except ScanError as fault:
         same("errors of a scan", fault.errors, wanted)
         return
-    raise Failure(f"{got} is told where there should be {wanted}")
+    raise Failure(f"{got} is answered where there should be {wanted}")
 
 
 def is_next(readings, before):
@@ -77,7 +81,7 @@ def reads_while_another_triggers(served):
 
 
 def reads_once_another_gives_its_lock_back(served):
-    """The scan is over under the lock, and its readings are told behind it."""
+    """The scan is over under the lock, and its readings are answered behind it."""
     told = []
     with session(served) as mainframe, session(served) as other:
         mainframe.query(f"{BY_BUS};*OPC?")
@@ -115,7 +119,7 @@ def fetches_nothing_where_an_error_was_queued(served):
 
 
 def gives_up_a_scan_that_is_read(served):
-    """Its time is over, and the scan goes on until it is ended."""
+    """Its time is over, and the scan runs until it is ended."""
     with session(served) as mainframe:
         mainframe.write(BY_BUS)
         try:
@@ -123,7 +127,7 @@ def gives_up_a_scan_that_is_read(served):
         except OSError:
             mainframe.clear()
         else:
-            raise Failure(f"{got} is told where nothing was triggered")
+            raise Failure(f"{got} is answered where nothing was triggered")
         same("it runs", mainframe.query("STAT:OPER:COND?;:ABOR;:STAT:OPER:COND?"), "32;0")
         same("errors", mainframe.query("*RST;:SYST:ERR?"), NO_ERROR)
 

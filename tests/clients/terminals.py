@@ -1,83 +1,28 @@
 """What a person types at a terminal is answered line by line: by `run`, and by the client before `serve`."""
 import contextlib
-import fcntl
-import os
-import pathlib
-import pty
-import select
-import signal
 import subprocess
-import termios
 import time
 
-import swm
-from client import instrument, receive_text
-from served import IDENTITY, PATIENCE, Failure, Served, same, send
+from swm import Kind
 
-HERE = pathlib.Path(__file__).resolve().parent.parent
+from support import EXAMPLES
+from support.checking import PATIENCE, same
+from support.hislip import send
+from support.pseudo_terminal import BACKSPACE, CTRL_C, CTRL_D, CTRL_P, answers_each_line, at_a_terminal
+from support.scpi import IDENTITY
+from support.scripted import instrument, receive_text
+from support.server import Served
+
 A_WHILE = 0.5  # seconds, in which a line that was typed is surely sent
-END, INTERRUPT, RUBOUT, EARLIER = "\x04", "\x03", "\x7f", "\x10"  # Ctrl-D, Ctrl-C, Backspace, Ctrl-P
 PROMPT = "> "  # of the client
-
-
-def in_the_foreground():
-    """Ctrl-C is heeded, also where whatever runs the checks ignores it."""
-    signal.signal(signal.SIGINT, signal.SIG_DFL)
-
-
-def at_its_terminal():
-    in_the_foreground()
-    fcntl.ioctl(0, termios.TIOCSCTTY, 0)
-
-
-class Terminal:
-    """A process at a pseudo terminal of its own."""
-
-    def __init__(self, words, **options):
-        self.keys, screen = pty.openpty()
-        self.shown = ""
-        self.process = subprocess.Popen(words, stdin=screen, stdout=screen, stderr=screen, start_new_session=True,
-                                        preexec_fn=at_its_terminal, **options)
-        os.close(screen)
-
-    def types(self, text):
-        os.write(self.keys, text.encode())
-
-    def shows(self, text):
-        """Reads until this stands on the screen, behind what was read before."""
-        end = time.monotonic() + PATIENCE
-        while text not in self.shown:
-            if not select.select([self.keys], [], [], max(end - time.monotonic(), 0))[0]:
-                raise Failure(f"{text!r} is not shown, but {self.shown!r}")
-            self.shown += os.read(self.keys, 65_536).decode()
-        self.shown = self.shown[self.shown.index(text) + len(text):]
-
-    def close(self):
-        self.process.kill()
-        self.process.wait()
-        os.close(self.keys)
-
-
-def at_a_terminal(words, **options):
-    return contextlib.closing(Terminal(words, **options))
 
 
 @contextlib.contextmanager
 def at_the_client(served):
     """The client's terminal, once it has shown its prompt."""
-    with at_a_terminal([HERE / "swm.py", str(served.port)]) as terminal:
+    with at_a_terminal([EXAMPLES / "swm.py", str(served.port)]) as terminal:
         terminal.shows(PROMPT)
         yield terminal
-
-
-def answers_each_line(terminal, prompt=""):
-    """Each answer comes before the next line is typed."""
-    terminal.types("*IDN?\n")
-    terminal.shows(f"{IDENTITY}\r\n{prompt}")
-    terminal.types("ROUT:CLOS (@2!9,1!3);CLOS:STAT?\n")
-    terminal.shows(f"(@1!3,2!9)\r\n{prompt}")
-    terminal.types(END)
-    same("status", terminal.process.wait(PATIENCE), 0)
 
 
 def run_answers_at_a_terminal(program):
@@ -91,17 +36,17 @@ def the_client_answers_at_a_terminal(program):
 
 
 def a_command_that_waits_is_given_up(program):
-    """Ctrl-C while `*OPC?` waits for the end of a scan gives it up, and the session goes on."""
+    """Ctrl-C while `*OPC?` waits for the end of a scan gives it up, and the session continues."""
     with Served(program) as served, at_the_client(served) as terminal:
         terminal.types("ROUT:SCAN (@3!4);:TRIG:SOUR BUS;:INIT;:STAT:OPER:COND?\n")
         terminal.shows("\r\n32\r\n")
         terminal.types("*OPC?\n")
         time.sleep(A_WHILE)
-        terminal.types(INTERRUPT)
+        terminal.types(CTRL_C)
         terminal.shows(f"given up\r\n{PROMPT}")
         terminal.types("ABOR;*OPC?\n")
         terminal.shows(f"\r\n1\r\n{PROMPT}")
-        terminal.types(END)
+        terminal.types(CTRL_D)
         same("status", terminal.process.wait(PATIENCE), 0)
 
 
@@ -121,7 +66,7 @@ def the_client_tells_errors_at_once(program):
 
 
 def the_client_leaves_the_errors_of_others(program):
-    """Who only looks takes none from the queue; an error of its own comes behind those of others."""
+    """A client that only looks takes none from the queue; an error of its own comes behind those of others."""
     with Served(program) as served, at_the_client(served) as terminal, served.join() as other:
         other.write("FOO")
         same("errors", other.query("SYST:ERR:COUN?"), "1")
@@ -134,11 +79,11 @@ def the_client_leaves_the_errors_of_others(program):
 
 def a_line_is_edited_and_found_again(program):
     with Served(program) as served, at_the_client(served) as terminal:
-        terminal.types(f"*IDX{RUBOUT}N?\n")
+        terminal.types(f"*IDX{BACKSPACE}N?\n")
         terminal.shows(f"\r\n{IDENTITY}\r\n{PROMPT}")
-        terminal.types(f"{EARLIER}\n")
+        terminal.types(f"{CTRL_P}\n")
         terminal.shows(f"*IDN?\r\n{IDENTITY}\r\n{PROMPT}")
-        terminal.types(f"*RST{INTERRUPT}")
+        terminal.types(f"*RST{CTRL_C}")
         terminal.shows(f"\r\n{PROMPT}")
         terminal.types("*OPC?\n")
         terminal.shows(f"*OPC?\r\n1\r\n{PROMPT}")
@@ -148,7 +93,7 @@ def a_line_is_edited_and_found_again(program):
 
 def typed_into_the_client(port, text):
     """What the client says on both outputs to what comes by a pipe."""
-    done = subprocess.run([HERE / "swm.py", str(port)], input=text, capture_output=True, timeout=PATIENCE)
+    done = subprocess.run([EXAMPLES / "swm.py", str(port)], input=text, capture_output=True, timeout=PATIENCE)
     same("status", done.returncode, 0)
     return done.stdout, done.stderr
 
@@ -174,7 +119,7 @@ def help_lists_what_the_mainframe_tells(_):
                 text, identifier = receive_text(commands)
                 same(text, word in text, True)
                 if answer is not None:
-                    send(commands, swm.Kind.DataEnd, 0, identifier, f"{answer}\n".encode())
+                    send(commands, Kind.DataEnd, 0, identifier, f"{answer}\n".encode())
 
         with instrument(script) as port:
             same("said", typed_into_the_client(port, b"help\n"), shown)

@@ -1,27 +1,15 @@
-#!/usr/bin/env python3
-"""Looks for how long connections to `PROGRAM serve` may stand without a session, or without its second connection:
-
-    talks/standing.py PROGRAM [NAME ..]
-
-Each check has a server of its own, on which another has session 1; all are made at once, and take a minute and a few
-seconds together. With names only those are made that have one of them in their own. Prints a line for each failure,
-and `N passed, M failed` at the end; the status is 1 where M > 0.
-"""
-import concurrent.futures
+"""For how long connections may stand without a session, or without its second connection. Each check has a server on
+which another has session 1."""
 import contextlib
 import itertools
-import os
-import pathlib
-import sys
 import time
 
-HERE = pathlib.Path(__file__).resolve().parent
-sys.dont_write_bytecode = True
-sys.path.insert(0, str(HERE.parent / "bench"))
-from crowd import HEADER_TIME, PAIR_TIME, WRITE_TIME, Standing
-from crowd import check_stood, check_turned_away, fill, half_a_session, trickle, watch
-from served import CLOSED, IDENTITY, SOON, Failure, Served, Steady, check_end, receive, same, within
-from streams import BEGIN, LARGEST, message
+from support.checking import SOON, same, within
+from support.hislip import BEGIN, CLOSED, LARGEST, check_end, message, receive
+from support.scpi import IDENTITY
+from support.sessions import Steady
+from support.standing import HEADER_TIME, PAIR_TIME, WRITE_TIME, Standing, check_stood, check_turned_away, fill, \
+    half_a_session, trickle, watch
 
 
 def check_is_free(served, number):
@@ -46,7 +34,7 @@ def check_pairs(served, first, number):
 
 def a_full_house(served):
     """As many connections as may stand, none of which has sent a whole header: one more is closed at once, a session
-    goes on, and one that ends makes room for sessions, which count no more. After ten seconds all are closed."""
+    continues, and one that ends makes room for sessions, which count no more. After ten seconds all are closed."""
     steady = Steady(served)
     steady.start()
     descriptors, threads = served.descriptors(), served.threads()
@@ -119,7 +107,7 @@ def a_client_that_is_alone_and_never_reads(served):
 
 
 def a_second_connection_of_no_session(served):
-    """It is told so, and closed at once."""
+    """It gets a FatalError, and is closed at once."""
     with served.connect() as wire, within(SOON, "its end"):
         wire.sendall(message(17, 0, 2))
         same("FatalError", receive(wire), (2, 3, 0, b""))
@@ -147,33 +135,3 @@ CHECKS = [
     first_messages_that_never_end, a_client_that_is_alone_and_never_reads, a_second_connection_of_no_session,
     a_second_connection_without_a_whole_header, a_silent_session,
 ]
-
-
-def make(check, program):
-    """What a check says of its failure, nothing where it passes."""
-    try:
-        with Served(program) as served:
-            with served.join():
-                check(served)
-                served.check_alive()
-    except (Failure, OSError) as failure:
-        return f"{check.__name__}: {type(failure).__name__}: {failure}"
-    return ""
-
-
-def main(program, *names):
-    program = os.path.abspath(program)
-    checks = [check for check in CHECKS if not names or any(word in check.__name__ for word in names)]
-    with concurrent.futures.ThreadPoolExecutor(len(CHECKS)) as pool:
-        faults = list(pool.map(lambda check: make(check, program), checks))
-    failures = [fault for fault in faults if fault]
-    for failure in failures:
-        print(failure)
-    print(f"{len(checks) - len(failures)} passed, {len(failures)} failed")
-    return 1 if failures else 0
-
-
-if __name__ == "__main__":
-    if len(sys.argv) < 2:
-        sys.exit(__doc__)
-    sys.exit(main(*sys.argv[1:]))

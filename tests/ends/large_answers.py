@@ -1,4 +1,4 @@
-"""What waits for what had arrived before it, and clients beside one that asks for large answers.
+"""Large answers: message available before any of them is read, others beside them, and what doesn't fit.
 
 Each check takes the program and a number of rounds.
 """
@@ -6,40 +6,21 @@ import socket
 import threading
 import time
 
-from parting import comes, data, tell
-from served import ALL_READINGS, MOST, PATIENCE, SCAN, SOON, Failure, Served, same
+from support.checking import PATIENCE, SOON, Failure, comes, same
+from support.scpi import ALL_READINGS, AVAILABLE, MOST_READINGS, SCAN
+from support.server import Served
 
 FITTING = 13  # answers of all readings in 16 MiB
 OFTEN = 10_900  # times that they are asked for in a message of 65,399 bytes
 SMALL, LARGE = 4_096, 1 << 20  # bytes of a client's buffer
 ASKERS = 4
 TURNS = 20
-AVAILABLE = 16  # of the status byte
-
-
-def releases_come_behind_commands(program, rounds):
-    """A command that was sent before a release acts before the next holder's, who waits for the lock."""
-    wrong = 0
-    with Served(program) as served, served.join() as first, served.join() as second:
-        for _ in range(rounds * 10):
-            same("lock", first.lock(0), 1)
-            waiter = threading.Thread(target=second.lock, args=[PATIENCE * 1_000])
-            waiter.start()
-            time.sleep(0.002)
-            first.commands.sendall(data("ROUT:OPEN (@2!3)"))
-            same("release", first.release(), 1)
-            waiter.join()
-            same("under the lock", second.query("ROUT:CLOS (@2!3);*OPC?"), "1")
-            same("release", second.release(), 1)
-            same("behind its own command", first.query("*OPC?"), "1")
-            wrong += second.query("ROUT:CLOS? (@2!3)") != "1"
-    tell("a command acted after the next holder's", wrong, rounds * 10)
 
 
 def scan(client):
     """Takes all readings; the client is patient from then on."""
     client.timeout = None
-    same("scan", client.query(SCAN.format(count=MOST)), "1")
+    same("scan", client.query(SCAN.format(count=MOST_READINGS)), "1")
 
 
 def message_available_of_a_large_answer(program, _rounds):
@@ -111,8 +92,7 @@ def what_does_not_fit_is_not_printed(program, _rounds):
         same("the error", client.query("SYST:ERR?"), '-225,"Out of memory"')
 
 
-def arrivals():
+def checks():
     """Each check by its name."""
-    checks = [releases_come_behind_commands, message_available_of_a_large_answer, others_go_on,
-              what_does_not_fit_is_not_printed]
-    yield from ((check.__name__, check) for check in checks)
+    each = [message_available_of_a_large_answer, others_go_on, what_does_not_fit_is_not_printed]
+    yield from ((check.__name__, check) for check in each)

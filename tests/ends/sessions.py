@@ -6,9 +6,12 @@ import contextlib
 import threading
 import time
 
-from served import CLOSED, PATIENCE, SOON, Client, Failure, Served, check_end
-from streams import message
 from swm import SessionError
+
+from support.checking import PATIENCE, SOON, comes, tell
+from support.hislip import CLOSED, check_end, program_message
+from support.server import Served
+from support.sessions import Client
 
 BUSY = 4  # sessions that ask all the while
 CROWD = 20  # threads, of which sixteen have a session at a time
@@ -20,26 +23,6 @@ HELD = {  # by what a message is held: what another session does before, the mes
     "a scan": (lambda other: other.query("ROUT:SCAN (@1!1);:TRIG:SOUR BUS;:INIT;:STAT:OPER:COND?"),
                "*OPC?;:ROUT:CLOS (@2!7)", lambda other: other.query("*RST;*IDN?")),
 }
-
-
-def data(text):
-    """A program message."""
-    return message(7, 1, 0xFFFF_FF00, f"{text}\n".encode())
-
-
-def tell(what, wrong, rounds):
-    if wrong:
-        raise Failure(f"{what} in {wrong} of {rounds} rounds")
-
-
-def comes(holds, seconds=SOON):
-    """Whether something holds in time."""
-    end = time.monotonic() + seconds
-    while not holds():
-        if time.monotonic() > end:
-            return False
-        time.sleep(0.001)
-    return True
 
 
 # ---- ends
@@ -111,7 +94,7 @@ def last_message(end, busy=0):
             for _ in range(rounds):
                 other.query("ROUT:CLOS (@2!1:2!16);*OPC?")
                 client = served.join()
-                client.commands.sendall(data(OPENS))
+                client.commands.sendall(program_message(OPENS))
                 end(client)
                 wrong += not comes(lambda: other.query("ROUT:CLOS:STAT?") == "(@)")
         tell("the last message was not done", wrong, rounds)
@@ -120,7 +103,7 @@ def last_message(end, busy=0):
 
 def ten_messages(end):
     """A check that ten messages that were sent right before the end are done, in order."""
-    sent = b"".join(data(f"ROUT:CLOS (@2!{number});*ESE {number}") for number in EACH)
+    sent = b"".join(program_message(f"ROUT:CLOS (@2!{number});*ESE {number}") for number in EACH)
     done = f"10;(@{','.join(f'2!{number}' for number in EACH)})"
 
     def check(program, rounds):
@@ -155,7 +138,7 @@ def many_before_the_second_alone(program, rounds):
         for _ in range(max(rounds // 10, 1)):
             other.query("ROUT:CLOS (@2!1:2!16);*OPC?")
             client = served.join()
-            client.commands.sendall(data("*CLS") * MANY + data(OPENS))
+            client.commands.sendall(program_message("*CLS") * MANY + program_message(OPENS))
             time.sleep(0.01)
             second_alone(client)
             wrong += not comes(lambda: other.query("ROUT:CLOS:STAT?") == "(@)")
@@ -176,7 +159,7 @@ def held(name, end):
             for _ in range(max(rounds // 10, 1)):
                 client = served.join()
                 hold(other)
-                client.commands.sendall(data(sent))
+                client.commands.sendall(program_message(sent))
                 end(client)
                 served.await_end_of_others(descriptors, threads)
                 let_go(other)
@@ -226,7 +209,7 @@ def join_at_once(port):
                 raise
 
 
-def partings():
+def checks():
     """Each check by its name."""
     for end in ENDS:
         yield f"last message, {end.__name__}", last_message(end)

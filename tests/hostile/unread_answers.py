@@ -1,113 +1,22 @@
-"""What hostile clients do to sessions: they vanish, don't read, clear, interrupt, pour, and fill what has a limit. Each
-check has a server beside a steady session; what the steady one would not bear is tried over a server of its own."""
+"""Answers that are interrupted, cut, cleared at once, as large as any, or never read."""
 import concurrent.futures
 import contextlib
 import random
 import socket
-import threading
-import time
 
-from served import CLOSED, HEADER, IDENTITY, PATIENCE, SESSIONS, SOON, Failure, Served, check_end, receive, \
-    receive_bytes, same, send, within
-from streams import ANSWER, BEGIN, LARGEST, QUERY, message
+from swm import HEADER
 
-WAITING_SCAN = "ROUT:SCAN (@1!1);:TRIG:SOUR BUS;:INIT"
-END_OF_SCAN = "*TRG;*OPC?"
-AVAILABLE = 16  # the bit of the status byte, MAV
-LIMIT = 1_000  # milliseconds of a lock that is not to be had
-PAUSES = 5_000  # of an hour, begun and aborted by one message
-MESSAGES = 40  # of these
+from support.checking import PATIENCE, Failure, same
+from support.hislip import ANSWER, BEGIN, LARGEST, QUERY, message, receive, receive_bytes
+from support.scpi import IDENTITY, MOST_BODY
+from support.server import Served
+from common import beside, pour, read_on, resize
+
 ROUNDS = 20_000  # of a query and a status query, for each of four clients
-HEIRS = 50  # sessions that take the number of one whose answer is on its way
 ANSWER_BYTES = 2**24
-BODY = b"$" * 4_096  # of a macro
+BODY = b"$" * MOST_BODY  # of a macro
 SIDE_BYTES = 65_536  # that wait at most for the thread of a second connection
 INTERRUPTIONS = 2_000_000  # more than what fills that and the system's own room
-
-
-def resize(client, size):
-    """Tells how large messages this client takes."""
-    client.events.sendall(message(15, 0, 0, size.to_bytes(8, "big")))
-    same("size", receive(client.events)[0], 16)
-
-
-def join_as(served, number):
-    """The session of this number, once it is free."""
-    clients = [served.join()]
-    while clients[-1].number != number:
-        clients.append(served.join())
-    for client in clients[:-1]:
-        client.close()
-    return clients[-1]
-
-
-def pour(rng, wire, stream):
-    """Sends a stream in pieces; the instrument may have closed the connection."""
-    try:
-        while stream:
-            size = rng.randrange(1, len(stream) + 1)
-            wire.sendall(stream[:size])
-            stream = stream[size:]
-    except OSError:
-        pass
-
-
-def read_on(wire, received):
-    """Reads until the connection ends."""
-    with contextlib.suppress(OSError):
-        while part := wire.recv(LARGEST):
-            received += part
-
-
-def beside(work, *arguments):
-    """Does this work in a thread meanwhile."""
-    thread = threading.Thread(target=work, args=arguments, daemon=True)
-    thread.start()
-    return thread
-
-
-# ---- sessions that were left
-
-
-def check_left_session(served, sent):
-    """What is left of a session does not reach the next one with its number."""
-    old = served.join()
-    old.commands.sendall(message(2))
-    check_end(old.commands)
-    new = join_as(served, old.number)
-    same("lock", new.lock(0), 1)
-    try:
-        old.events.sendall(sent)
-    except CLOSED:
-        pass
-    check_end(old.events)
-    same("release", new.release(), 1)
-    same("identity", new.query("*IDN?"), IDENTITY)
-    new.close()
-    old.close()
-
-
-def check_heirs(served):
-    """An answer on its way to a session that was left is no message available of the next one with its number."""
-    rng = random.Random(1)
-    for _ in range(HEIRS):
-        old = served.join()
-        resize(old, 17)
-        old.commands.sendall(message(7, 1, 0, b"*IDN?;" * rng.randrange(1, 2_000)))
-        receive(old.commands)
-        old.events.shutdown(socket.SHUT_RDWR)
-        draining = beside(read_on, old.commands, bytearray())
-        new = join_as(served, old.number)
-        for _ in range(10):
-            same("message available", new.read_stb() & AVAILABLE, 0)
-        new.commands.sendall(message(7, 0, 0xFFFF_FF00, b"*IDN?\n"))
-        same("identity", receive_bytes(new.commands, len(ANSWER)), ANSWER)
-        draining.join(PATIENCE)
-        new.close()
-        old.close()
-
-
-# ---- answers
 
 
 def check_interrupted(served):
@@ -121,7 +30,7 @@ def check_interrupted(served):
 
 
 def check_answer_in_parts(served, size, room):
-    """An answer is cut for a client that takes messages of this size into payloads of so many bytes."""
+    """An answer is cut for a client that takes messages of this size into payloads of this many bytes."""
     client = served.join()
     resize(client, size)
     client.commands.sendall(QUERY)
@@ -174,67 +83,6 @@ def read_and_clear(client):
         same("status", receive_bytes(client.events, HEADER.size), message(22))
 
 
-# ---- device clears
-
-
-def check_clear(served, query):
-    """A device clear in mid-query: nothing of the query is left."""
-    client = served.join()
-    client.commands.sendall(query)
-    client.clear()
-    same("identity", client.query("*IDN?"), IDENTITY)
-    client.close()
-
-
-def check_clear_of_held(served):
-    """A device clear gives a command up that waits for the end of a scan."""
-    scanner, client = served.join(), served.join()
-    scanner.write(WAITING_SCAN)
-    scanner.query("*STB?")
-    client.write("*OPC?")
-    client.clear()
-    same("identity", client.query("*IDN?"), IDENTITY)
-    same("the end of the scan", scanner.query(END_OF_SCAN), "1")
-    scanner.close()
-    client.close()
-
-
-# ---- clients that vanish, and such that don't read
-
-
-def check_vanished_beside_scan(served):
-    """Sessions that wait for the end of a scan, and whose clients vanish, leave."""
-    scanner = served.join()
-    scanner.write(WAITING_SCAN)
-    scanner.query("*STB?")
-    for _ in range(SESSIONS):
-        client = served.join()
-        client.write("*OPC?;:ROUT:CLOS (@2!1)")
-        client.close()
-    served.check_sessions(2)
-    same("the end of the scan, a relay", scanner.query(f"{END_OF_SCAN};:ROUT:CLOS? (@2!1)"), "1;0")
-    scanner.close()
-
-
-def check_vanished_beside_lock(served):
-    """Sessions that wait for a lock with a command, a request or both leave as their clients vanish, and do nothing."""
-    holder = served.join()
-    same("lock", holder.lock(0), 1)
-    for number in range(3 * SESSIONS):
-        client = served.join()
-        if number % 3:
-            send(client.events, 4, 1, 2**32 - 1)
-        if number % 3 != 1:
-            client.write("ROUT:CLOS (@1!1)")
-        client.close()
-        if number % SESSIONS == SESSIONS - 3:
-            served.check_free(2)
-    served.check_free(2)
-    same("release", holder.release(), 1)
-    same("relay", holder.query("ROUT:CLOS? (@1!1)"), "0")
-    holder.close()
-
-
 def check_client_that_never_reads(served):
     """It fills the wire with answers, and holds nobody up."""
     client, other = served.join(), served.join()
@@ -271,7 +119,7 @@ def check_events_never_read(others):
 
 
 def interrupts_on(wire):
-    """Whether so many queries can be sent, each of which interrupts the one before."""
+    """Whether all these queries can be sent, each of which interrupts the one before."""
     with contextlib.suppress(OSError):
         for _ in range(INTERRUPTIONS // 100):
             wire.sendall(message(7, 0, 0xFFFF_FF00, b"*OPC?") * 100)
@@ -279,82 +127,12 @@ def interrupts_on(wire):
     return False
 
 
-# ---- limits and pauses
-
-
-def check_limit_runs_out(others):
-    """A lock is given up in time, though all who hold one pour triggers, as nobody may beside the steady session."""
-    with Served(others.program) as served:
-        client, *holders = [served.join() for _ in range(4)]
-        for key, released in [(b"", 1), (b"bench", 2)]:
-            holding = holders if key else holders[:1]
-            for holder in holding:
-                same("lock", holder.lock(0, key), 1)
-            check_limit(client, holding)
-            for holder in holding:
-                same("release", holder.release(), released)
-        served.check_alive()
-
-
-def check_limit(client, holding):
-    over = threading.Event()
-    working = [beside(work_until, over, holder.commands) for holder in holding]
-    began = time.monotonic()
-    with within(LIMIT / 1_000 + SOON, "a lock's limit"):
-        same("lock", client.lock(LIMIT), 0)
-    same("the limit was waited for", time.monotonic() >= began + LIMIT / 1_000, True)
-    over.set()
-    for thread in working:
-        thread.join(PATIENCE)
-
-
-def work_until(over, wire):
-    """Sends what changes nothing: a trigger that is ignored, and an abort where no scan runs."""
-    with contextlib.suppress(OSError):
-        while not over.is_set():
-            wire.sendall(message(12) + message(7, 0, 0, b"ABOR\n"))
-
-
-def check_stale_pauses(others):
-    """Pauses of scans that were aborted hold no other up, nor memory, nor the end of the program."""
-    with Served(others.program) as served:
-        client, other = served.join(), served.join()
-        stale = "ROUT:SCAN (@1!1);:TRIG:DEL 3600" + ";:INIT;:ABOR" * PAUSES
-        client.write(stale)
-        same("the end of the pauses", client.query("*OPC?"), "1")
-        resident = served.resident()
-        for _ in range(MESSAGES):
-            client.write(stale)
-        same("the end of more", client.query("*OPC?"), "1")
-        if served.resident() > resident + 4_096:
-            raise Failure(f"memory grew from {resident} to {served.resident()} kB")
-        with within(SOON, "a pause of 10 ms"):
-            same("a short pause", other.query("TRIG:DEL 0.01;:INIT;*OPC?"), "1")
-        other.write("TRIG:DEL 3600;:INIT")
-        other.query("*STB?")
-        with within(SOON, "the end of the program"):
-            served.process.terminate()
-            served.process.wait(PATIENCE)
-
-
-def doings():
-    """Each check by its name, and what it is called with beside the server."""
-    yield from ((f"a left session: {name}", check_left_session, sent) for name, sent in [
-        ("a device clear", message(19)), ("a release", message(4)), ("a lock", message(4, 1)),
-        ("a size", message(15, 0, 0, bytes(8)))])
-    yield "heirs of answers", check_heirs
+def checks():
+    """Each check by its name."""
     yield "an answer that isn't read", check_interrupted
-    yield from ((f"a size of {size}", check_answer_in_parts, size, room)
-                for size, room in [(0, 1), (17, 1), (32, 16), (2**64 - 1, LARGEST - 16)])
+    for size, room in [(0, 1), (17, 1), (32, 16), (2**64 - 1, LARGEST - 16)]:
+        yield f"a size of {size}", check_answer_in_parts, size, room
     yield "the largest answer", check_largest_answer
     yield "answers that are cleared at once", check_cleared_at_once
-    yield "a clear of an answer", check_clear, QUERY
-    yield "a clear of a part", check_clear, message(6, 0, 0, b"ROUT:OPEN")
-    yield "a clear in mid-message", check_clear, message(7, 0, 0, b"*IDN?;*OPC?")
-    yield "a clear of a held command", check_clear_of_held
-    yield "clients that vanish beside a scan", check_vanished_beside_scan
-    yield "clients that vanish beside a lock", check_vanished_beside_lock
     yield "a client that never reads", check_client_that_never_reads
     yield "events that are never read", check_events_never_read
-    yield "a limit that runs out", check_limit_runs_out
-    yield "stale pauses", check_stale_pauses

@@ -1,25 +1,9 @@
-"""Hostile HiSLIP streams: a table of them with the answers that docs/HISLIP.md tells, and others made at random."""
-from served import HEADER, IDENTITY
+"""HiSLIP messages that may not stand where they do, and what docs/HISLIP.md tells of each."""
+from support.checking import SOON, same, within
+from support.hislip import ANSWER, BEGIN, LARGEST, QUERY, check_end, error, fatal, message, receive, receive_bytes
+from support.scpi import IDENTITY
 
-LARGEST = 65_536  # bytes of a payload
 FROM_INSTRUMENT = {1, 2, 3, 5, 6, 7, 9, 11, 13, 14, 16, 18, 20, 22, 23, 25}  # the kinds that an instrument sends
-
-
-def message(kind, control=0, parameter=0, payload=b"", length=None, prologue=b"HS"):
-    return HEADER.pack(prologue, kind, control, parameter, len(payload) if length is None else length) + payload
-
-
-def fatal(code):
-    return message(2, code)
-
-
-def error(code):
-    return message(3, code)
-
-
-BEGIN = message(0, 0, 0x0100_5858, b"hislip0")
-QUERY = message(7, 1, 0xFFFF_FF00, b"*IDN?\n")
-ANSWER = message(7, 0, 0xFFFF_FF00, IDENTITY.encode() + b"\n")
 SIZE = message(16, 0, 0, LARGEST.to_bytes(8, "big"))
 TOO_LARGE = message(7, 1, 0, b" " * (LARGEST + 1))
 
@@ -50,7 +34,7 @@ FIRST = [
     ("a wrong prologue behind Initialize", BEGIN + message(7, prologue=b"hs"), fatal(1)),
 ]
 
-# What is sent on the connection for commands of a session, and what comes back; the session goes on.
+# What is sent on the connection for commands of a session, and what comes back; the session continues.
 COMMANDS = [
     ("a payload that is too large", TOO_LARGE, error(4)),
     ("a part that is too large", message(6, 1, 0, b" " * (LARGEST + 1)) + QUERY + QUERY, error(4) + ANSWER),
@@ -94,48 +78,41 @@ ENDS = [
 ]
 
 
-# ---- at random
-
-WORDS = [
-    b"*IDN?", b"*STB?", b"SYST:ERR?", b"ROUT:CLOS?", b"ROUT:CLOS:STAT?", b" (@1!1", b"(@2!1:2!16)", b"(@104)", b"#0",
-    b"#15", b"#9999999999", b"*DMC 'A',", b"*EMC 1", b"A", b"*LMC?", b"*GMC? 'A'", b"'", b'"', b";", b";", b":", b",",
-    b"?", b" ", b"1E99999", b"9" * 300, b"\n", b"\0", b"\xff", b"FOO", b"TRIG:COUN?", b"ARM:LAY3:COUN?",
-]
-
-
-def noise(rng):
-    return rng.randbytes(rng.randrange(1, 400))
+def check_first(served, sent, told):
+    with served.connect() as wire:
+        wire.sendall(sent)
+        if sent.startswith(BEGIN):
+            same("kind", receive(wire)[0], 1)
+        same("answer", receive_bytes(wire, len(told)), told)
+        check_end(wire)
 
 
-def words(rng):
-    text = b"".join(rng.choice(WORDS) for _ in range(rng.randrange(1, 30)))
-    return message(rng.choice([6, 7, 7]), rng.randrange(2), rng.randrange(2**32), text)
+def check_wire(served, name, sent, told):
+    """A session that got this on one of its connections answers that, and continues."""
+    client = served.join()
+    wire = getattr(client, name)
+    wire.sendall(sent)
+    same("answer", receive_bytes(wire, len(told)), told)
+    client.delivered = 1
+    same("identity", client.query("*IDN?"), IDENTITY)
+    client.close()
 
 
-def header(rng):
-    """A message of any kind, whose payload has the length that it tells, or another."""
-    kind = rng.choice([rng.randrange(32), rng.randrange(256), rng.choice([4, 6, 7, 8, 12, 15, 19, 21])])
-    payload = rng.randbytes(rng.choice([0, 0, 1, 8, 300, LARGEST, LARGEST + 1]))
-    length = rng.choice([len(payload)] * 6 + [2**64 - 1, 2**63, 2**32, LARGEST + 1, 0])
-    parameter = rng.choice([0, 1, 2, 17, 500, rng.randrange(2**32)])
-    return message(kind, rng.choice([0, 1, rng.randrange(256)]), parameter, payload, length)
+def check_session_ends(served, on_commands, sent, told):
+    """Both connections end at once."""
+    client = served.join()
+    wire, other = (client.commands, client.events) if on_commands else (client.events, client.commands)
+    with within(SOON, "the end of a session"):
+        wire.sendall(sent)
+        same("answer", receive_bytes(wire, len(told)), told)
+        check_end(wire)
+        check_end(other)
+    client.close()
 
 
-def messages(rng):
-    return b"".join(rng.choice([words, words, header])(rng) for _ in range(rng.randrange(1, 6)))
-
-
-def cut(rng):
-    stream = messages(rng)
-    return stream[:rng.randrange(len(stream))]
-
-
-def turned(rng):
-    stream = bytearray(QUERY + message(21) + words(rng) + QUERY)
-    for _ in range(rng.randrange(1, 5)):
-        stream[rng.randrange(len(stream))] = rng.randrange(256)
-    return bytes(stream)
-
-
-def at_random(rng):
-    return rng.choice([noise, messages, messages, cut, turned, words])(rng)
+def checks():
+    """Each check by its name."""
+    yield from ((f"first: {name}", check_first, *row) for name, *row in FIRST)
+    yield from ((f"commands: {name}", check_wire, "commands", *row) for name, *row in COMMANDS)
+    yield from ((f"events: {name}", check_wire, "events", *row) for name, *row in EVENTS)
+    yield from ((f"ends: {name}", check_session_ends, *row) for name, *row in ENDS)

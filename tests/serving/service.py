@@ -8,23 +8,15 @@ import socket
 import subprocess
 import tempfile
 
-from building import in_a_repository
-from served import END, IDENTITY, PATIENCE, SOON, Client, own_cards, same, wait_until, within
-from serving import CTRL_D
-from terminals import INTERRUPT, at_a_terminal
+from support import EXAMPLES, ROOT
+from support.checking import PATIENCE, SOON, same, wait_until, within
+from support.own_cards import own_cards
+from support.scpi import IDENTITY
+from support.server import END, free_port, is_refused
+from support.sessions import Client
 
-ROOT = pathlib.Path(__file__).resolve().parent.parent.parent
-SERVICE = ROOT / "examples/service"
+SERVICE = EXAMPLES / "service"
 SIGNALS = [signal.SIGTERM, signal.SIGINT, signal.SIGHUP]
-
-
-def free_port():
-    with socket.create_server(("127.0.0.1", 0)) as free:
-        return free.getsockname()[1]
-
-
-def is_refused(port):
-    return bool(socket.socket().connect_ex(("127.0.0.1", port)))
 
 
 @contextlib.contextmanager
@@ -56,12 +48,12 @@ def serving(program, told, environment, *words):
     words = words or (SERVICE, program)
     with service([*words, "--port", str(port)], env=environment) as (process, servers):
         same("what it says", process.stderr.readline(), f"mainframe: listening on 127.0.0.1:{port}\n")
-        same("what systemd is told", told.recv(100), b"READY=1")
+        same("what systemd gets", told.recv(100), b"READY=1")
         yield process, servers[0], port
 
 
 def check_end(process, told, port):
-    same("what systemd is told", told.recv(100), b"STOPPING=1")
+    same("what systemd gets", told.recv(100), b"STOPPING=1")
     same("status", process.wait(PATIENCE), 0)
     same("whether connections are refused", is_refused(port), True)
 
@@ -128,7 +120,7 @@ def a_service_whose_port_is_taken(program):
              ["mainframe: cannot listen", f"mainframe: 127.0.0.1:{port}"[:25]])
         told.setblocking(False)
         with contextlib.suppress(BlockingIOError):
-            same("what systemd is told", told.recv(100), None)
+            same("what systemd gets", told.recv(100), None)
 
 
 def a_service_whose_server_is_killed(program):
@@ -168,24 +160,8 @@ def a_service_passes_lines_on(_):
             same("status", process.wait(PATIENCE), 0)
 
 
-@in_a_repository
-def make_serve_ends_at_a_terminal(repository):
-    """By Ctrl-C and by Ctrl-D."""
-    repository.prove()
-    for key in (INTERRUPT, CTRL_D):
-        port = free_port()
-        with at_a_terminal(repository.words("serve", f"PORT={port}"), env=repository.environment) as terminal:
-            terminal.shows(f"listening on 127.0.0.1:{port}\r\n")
-            with Client(port, timeout=PATIENCE * 1_000) as client:
-                same("identity", client.query("*IDN?"), IDENTITY)
-            with within(END, "the end"):
-                terminal.types(key)
-                terminal.process.wait(PATIENCE)
-        same("whether connections are refused", is_refused(port), True)
-
-
 CHECKS = [
     each_signal_ends_the_service, each_signal_opens_the_relays, the_unit_of_the_document,
     a_service_whose_port_is_taken, a_service_whose_server_is_killed, a_service_that_is_killed,
-    a_service_without_a_program, a_service_passes_lines_on, make_serve_ends_at_a_terminal,
+    a_service_without_a_program, a_service_passes_lines_on,
 ]

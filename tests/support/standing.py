@@ -1,23 +1,19 @@
-"""Connections that stand without a session: how many may, for how long, and what becomes of more. What
-`talks/standing.py` and `bench/hostile` try of them stands here."""
+"""Connections that stand without a session: how many may, for how long, and what becomes of more."""
 import contextlib
 import select
 import threading
 import time
 
-from served import CLOSED, HEADER, IDENTITY, SESSIONS, SOON, Failure, check_growth, receive, receive_bytes, \
-    same, wait_until
-from streams import BEGIN, LARGEST, fatal
+from swm import HEADER
+
+from support.checking import SOON, Failure, same, wait_until
+from support.hislip import BEGIN, CLOSED, LARGEST, receive
 
 MOST = 64  # connections that stand without a session; one more is closed at once
 # Seconds after its beginning between which a connection is closed, the limit and what a slow machine adds:
 HEADER_TIME = (9.5, 20)  # where its first header isn't whole
 PAIR_TIME = (59.5, 70)  # where its session doesn't have both connections
 WRITE_TIME = (9.5, 80)  # where it does not read until then: ten seconds after answers found no room
-AT_ONCE = 32
-ONE_AFTER_ANOTHER = 200
-HOUSES = 10  # one after another, of which every fifth stands for as long as it may
-TURNED_AWAY = 200
 
 
 class Standing:
@@ -53,7 +49,7 @@ class Standing:
 
 
 def watch(connections, seconds):
-    """Looks at connections for so many seconds, or until the instrument has closed them all."""
+    """Looks at connections for this many seconds, or until the instrument has closed them all."""
     end = time.monotonic() + seconds
     standing = {one.wire: one for one in connections if one.stood is None}
     while standing and time.monotonic() < end:
@@ -73,7 +69,7 @@ def check_stood(connections, times):
 
 
 def trickle(wire, stream, seconds):
-    """Sends a byte each so many seconds, by a thread, until the connection ends."""
+    """Sends a byte at this interval in seconds, by a thread, until the connection ends."""
     def send_each():
         with contextlib.suppress(OSError):
             for byte in stream:
@@ -107,77 +103,3 @@ def check_turned_away(served, *streams):
         one.wire.close()
         if one.stood is None or one.came:
             raise Failure(f"beside {MOST} connections, another is not closed but told {one.came!r}")
-
-
-# ---- hostile crowds, beside so many sessions of others
-
-
-def check_houses(served, others):
-    """House after house of connections that say nothing, and many more at the door, leave nothing behind."""
-    descriptors, threads = served.descriptors(), served.threads()
-    resident = []
-    for number in range(1, HOUSES + 1):
-        house = fill(served)
-        check_turned_away(served, *[BEGIN[:length % (len(BEGIN) + 1)] for length in range(TURNED_AWAY)])
-        if number % 5 == 0:
-            check_stood(house, HEADER_TIME)
-        for one in house:
-            one.wire.close()
-        served.await_end_of_others(descriptors, threads)
-        resident.append(served.resident())
-    check_growth(resident[HOUSES // 2], resident[-1])
-    served.check_sessions(others)
-
-
-def check_half_sessions(served, others):
-    """First connections alone have all numbers that are free, and after a minute none."""
-    descriptors, threads = served.descriptors(), served.threads()
-    halves = [half_a_session(served)[0] for _ in range(SESSIONS - others)]
-    refused = Standing(served, BEGIN)
-    watch([refused], SOON)
-    same("a refusal", refused.came, fatal(4))
-    check_stood(halves, PAIR_TIME)
-    served.await_end_of_others(descriptors, threads)
-    served.check_sessions(others)
-
-
-def join_at_once(served):
-    """How many of many that ask for a session at once get one; the others are refused."""
-    wires = [served.connect() for _ in range(AT_ONCE)]
-    for wire in wires:
-        wire.sendall(BEGIN)
-    kinds = [receive_bytes(wire, HEADER.size)[2:4] for wire in wires]
-    for wire in wires:
-        wire.close()
-    joined = kinds.count(b"\1\0")
-    same("refusals", kinds.count(b"\2\4"), AT_ONCE - joined)
-    return joined
-
-
-def check_connections_at_once(served, others):
-    """No more sessions are given than there are, and all of them once those before have left; as many connections
-    more say nothing, so that there is room for all."""
-    silent = [served.connect() for _ in range(MOST - AT_ONCE)]
-    time.sleep(0.5)
-    descriptors, threads = served.descriptors(), served.threads()
-    seen = [0]
-    while max(seen) < SESSIONS - others and len(seen) < 100:
-        seen.append(join_at_once(served))
-        served.await_end_of_others(descriptors, threads)
-    same("the most sessions", max(seen), SESSIONS - others)
-    for wire in silent:
-        wire.close()
-    served.check_sessions(others)
-
-
-def check_connections_in_turn(served, others):
-    descriptors, threads = served.descriptors(), served.threads()
-    for turn in range(ONE_AFTER_ANOTHER):
-        if turn % 2:
-            served.connect().close()
-        else:
-            client = served.join()
-            same("identity", client.query("*IDN?"), IDENTITY)
-            client.close()
-    served.await_end_of_others(descriptors, threads)
-    served.check_sessions(others)

@@ -1,0 +1,44 @@
+"""Clients that vanish while their command, or their request for a lock, waits."""
+from support.checking import same
+from support.hislip import send
+from support.server import SESSIONS
+from common import END_OF_SCAN, WAITING_SCAN
+
+
+def check_vanished_beside_scan(served):
+    """Sessions that wait for the end of a scan, and whose clients vanish, leave."""
+    scanner = served.join()
+    scanner.write(WAITING_SCAN)
+    scanner.query("*STB?")
+    for _ in range(SESSIONS):
+        client = served.join()
+        client.write("*OPC?;:ROUT:CLOS (@2!1)")
+        client.close()
+    served.check_sessions(2)
+    same("the end of the scan, a relay", scanner.query(f"{END_OF_SCAN};:ROUT:CLOS? (@2!1)"), "1;0")
+    scanner.close()
+
+
+def check_vanished_beside_lock(served):
+    """Sessions that wait for a lock with a command, a request or both leave as their clients vanish, and do nothing."""
+    holder = served.join()
+    same("lock", holder.lock(0), 1)
+    for number in range(3 * SESSIONS):
+        client = served.join()
+        if number % 3:
+            send(client.events, 4, 1, 2**32 - 1)
+        if number % 3 != 1:
+            client.write("ROUT:CLOS (@1!1)")
+        client.close()
+        if number % SESSIONS == SESSIONS - 3:
+            served.check_free(2)
+    served.check_free(2)
+    same("release", holder.release(), 1)
+    same("relay", holder.query("ROUT:CLOS? (@1!1)"), "0")
+    holder.close()
+
+
+CHECKS = [
+    ("clients that vanish beside a scan", check_vanished_beside_scan),
+    ("clients that vanish beside a lock", check_vanished_beside_lock),
+]

@@ -1,0 +1,108 @@
+"""The address that a server listens on, its log of connections, all readings, and what holds no session up."""
+import re
+import resource
+import socket
+import subprocess
+import time
+
+from swm import SessionError
+
+from support.checking import PATIENCE, SOON, Failure, same, within
+from support.hislip import message, receive
+from support.scpi import ALL_READINGS, IDENTITY, MOST_READINGS, SCAN
+from support.server import Served, Supervised, is_refused
+from support.sessions import Client
+
+
+def another_address(program):
+    with Served(program, "--address", "127.0.0.2", host="127.0.0.2") as served:
+        same("what it says", served.remarks[0], f"mainframe: listening on 127.0.0.2:{served.port}\n")
+        if not is_refused(served.port):
+            raise Failure("the usual address is served too")
+        with Client(served.port, "127.0.0.2") as client:
+            same("identity", client.query("*IDN?"), IDENTITY)
+
+
+def an_address_of_version_six(program):
+    if not socket.has_ipv6:
+        return
+    with Served(program, "--address", "::1", host="::1") as served:
+        same("what it says", served.remarks[0], f"mainframe: listening on [::1]:{served.port}\n")
+        socket.create_connection(("::1", served.port), PATIENCE).close()
+
+
+def the_log_of_connections(program):
+    with Supervised(program, "--log") as served:
+        with served.join() as client:
+            same("identity", client.query("*IDN?"), IDENTITY)
+        with served.connect() as wire:
+            wire.sendall(b"GET / HTTP/1.0\r\n")
+            same("FatalError", receive(wire).kind, 2)
+        with served.connect() as wire:
+            wire.sendall(message(6, 0, 0, b"*RST"))
+            same("FatalError", receive(wire).kind, 2)
+        clients = [served.join() for _ in range(16)]
+        try:
+            Client(served.port)
+            raise Failure("a seventeenth session")
+        except SessionError:
+            pass
+        served.end()
+        for client in clients:
+            client.close()
+    check_remarks("".join(served.remarks[1:]))
+
+
+def check_remarks(told):
+    """The log names each connection once as it comes and once as it goes, in order, and nothing else."""
+    coming = re.findall(r"^mainframe: connection (\d+) from 127\.0\.0\.1:\d+$", told, re.M)
+    leaving = re.findall(r"^mainframe: connection (\d+) (?:left|refused): (.*)$", told, re.M)
+    joining = re.findall(r"^mainframe: connection (\d+) joined as session (\d+)$", told, re.M)
+    same("lines", len(coming) + len(leaving) + len(joining), told.count("\n"))
+    same("numbers", coming, [str(number) for number in range(1, len(coming) + 1)])
+    same("who left", sorted(int(number) for number, _ in leaving), list(range(1, len(coming) + 1)))
+    why = dict(leaving)
+    same("the first session", [it for it in joining if it[0] in ("1", "2")], [("1", "1"), ("2", "1")])
+    same("no header", why["3"], "broken header")
+    same("a message before its time", why["4"], "FatalError 3")
+    same("one too many", sorted(why.values()).count("full"), 1)
+    same("sessions", sorted(int(session) for _, session in joining), sorted([1, 1, *range(1, 17), *range(1, 17)]))
+
+
+def an_answer_of_all_readings(program):
+    """More than a million bytes, over both ways."""
+    typed = f"{SCAN.format(count=MOST_READINGS)}\nFETC?\n"
+    done = subprocess.run([program, "run"], input=typed, text=True, capture_output=True, timeout=PATIENCE)
+    if done.stdout != f"1\n{ALL_READINGS}\n":
+        raise Failure("`run` does not answer all readings")
+    with Served(program) as served, served.join() as client:
+        same("scan", client.query(SCAN.format(count=MOST_READINGS)), "1")
+        if client.query("FETC?") != ALL_READINGS:
+            raise Failure("`serve` does not answer all readings")
+
+
+def a_pause_holds_no_session_up(program):
+    """Another thread waits it out, so that its own session is answered meanwhile."""
+    with Served(program) as served, served.join(), served.join() as client:
+        client.write("TRIG:DEL 5;:ROUT:SCAN (@1!1);:INIT")
+        with within(SOON, "an answer beside a pause"):
+            same("identity", client.query("*IDN?"), IDENTITY)
+            client.write("ABOR")
+
+
+def accepts_that_fail_are_over_soon(program):
+    """Where the server has no descriptor left, connections wait, and are served once there are some."""
+    limited = lambda: resource.setrlimit(resource.RLIMIT_NOFILE, (16, 16))
+    with Served(program, preexec_fn=limited) as served:
+        crowd = [served.connect() for _ in range(24)]
+        time.sleep(0.5)
+        for wire in crowd:
+            wire.close()
+        with within(2 * SOON, "the next session"), served.join() as client:
+            same("identity", client.query("*IDN?"), IDENTITY)
+
+
+CHECKS = [
+    another_address, an_address_of_version_six, the_log_of_connections, an_answer_of_all_readings,
+    a_pause_holds_no_session_up, accepts_that_fail_are_over_soon,
+]
