@@ -5,6 +5,8 @@
 # make serve: serves HiSLIP clients on port 4880 of this machine by the proved program, until Ctrl-C; PORT=4881: on that
 #             port; ADDRESS=192.168.1.5: at that address, for whoever reaches it.
 # make try-serve: likewise by the unproved program.
+# make install: copies the proved program, the client, the service and its unit below /usr/local; PREFIX=/opt/rack:
+#             below that folder; DESTDIR=image: into that folder as if it were the root.
 # make test:  the whole gate.
 # make tests: tries the program that is built, without any proof; PART=clients: by one part (a folder of tests).
 # make wrong: tries every wrong body, whatever is recorded of it.
@@ -12,12 +14,20 @@
 # make bench: times the program on each workload; NAME=lists: on one.
 # make bench-serve: times sessions over the network, against a bare echo in the same run.
 # make soak:  sixteen sessions at work for some rounds, with a watcher, and hostile streams; ROUNDS=100: a hundred.
+# make help:  these lines, as `make` alone.
 RT ?= rt
 export RT
 
+PREFIX ?= /usr/local
+LIBRARY = $(PREFIX)/lib/mainframe
+UNITS = $(PREFIX)/lib/systemd/system
 AT = --address $(or $(ADDRESS),127.0.0.1) --port $(or $(PORT),4880)
+BUILT = crates/mainframe/out/mainframe
 
-.PHONY: prove run serve try try-serve test wrong check tests bench bench-serve soak
+.PHONY: help prove run serve try try-serve install test tests wrong check bench bench-serve soak
+
+help:
+	@sed -n '/^#/!q; s/^# //p' Makefile
 
 prove:
 	@build/program prove $(CRATE)
@@ -28,8 +38,18 @@ run try:
 serve try-serve:
 	@build/program $@ $(AT)
 
+install:
+	@program=$$(build/program proved) && install -D "$$program" "$(DESTDIR)$(PREFIX)/bin/mainframe"
+	@install -d "$(DESTDIR)$(LIBRARY)" "$(DESTDIR)$(UNITS)"
+	@install examples/service examples/swm.py "$(DESTDIR)$(LIBRARY)"
+	@install -m 644 examples/terminal.py "$(DESTDIR)$(LIBRARY)"
+	@sed 's|/usr/local|$(PREFIX)|g' examples/mainframe.service > "$(DESTDIR)$(UNITS)/mainframe.service"
+
 test:
 	@./gate
+
+tests:
+	@tests/run $(BUILT) $(PART)
 
 wrong:
 	@wrong/libraries && wrong/try --all
@@ -37,16 +57,13 @@ wrong:
 check:
 	@cd crates/$(CRATE) && $(RT) check
 
-tests:
-	@tests/run crates/mainframe/out/mainframe $(PART)
-
 bench:
 	@bench/run $(NAME)
 
 bench-serve:
-	@bench/serve crates/mainframe/out/mainframe
-	@bench/status crates/mainframe/out/mainframe
+	@bench/serve $(BUILT)
+	@bench/status $(BUILT)
 
 soak:
-	@tests/soak/run crates/mainframe/out/mainframe $(if $(ROUNDS),--rounds $(ROUNDS))
-	@tests/hostile/run crates/mainframe/out/mainframe --streams 500
+	@tests/soak/run $(BUILT) $(if $(ROUNDS),--rounds $(ROUNDS))
+	@tests/hostile/run $(BUILT) --streams 500

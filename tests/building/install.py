@@ -1,0 +1,78 @@
+"""`make install`: what it copies where, and that it runs there; `make help`: a line for each command."""
+import pathlib
+import re
+import signal
+import subprocess
+import sys
+
+from support.checking import PATIENCE, same
+from support.scpi import IDENTITY
+from support.server import free_port
+from repository import begins, in_a_repository
+
+FILES = ["bin/mainframe", "lib/mainframe/service", "lib/mainframe/swm.py", "lib/mainframe/terminal.py",
+         "lib/systemd/system/mainframe.service"]
+
+
+def installed(repository, prefix):
+    """The folder that is taken for the root, with what is installed below the prefix."""
+    image = repository.root / "image"
+    done = repository.make("install", f"DESTDIR={image}", f"PREFIX={prefix}")
+    same("status, output and standard error", (done.returncode, done.stdout, done.stderr), (0, "", ""))
+    found = [file for file in image.glob("**/*") if file.is_file()]
+    same("files", sorted(str(file.relative_to(image)) for file in found), [f"{prefix[1:]}/{name}" for name in FILES])
+    return image
+
+
+@in_a_repository
+def nothing_is_installed_that_is_not_proved(repository):
+    image = repository.root / "image"
+    done = repository.make("install", f"DESTDIR={image}")
+    begins(done.stderr, "no proved program of these sources is here: `make prove` makes it")
+    same("status", done.returncode, 2)
+    same("whether something is installed", image.exists(), False)
+
+
+@in_a_repository
+def the_unit_that_is_installed_runs(repository):
+    """Its command serves, the client that is installed is answered, and SIGTERM ends it."""
+    repository.prove()
+    image, port = installed(repository, "/opt/rack"), free_port()
+    unit = (image / "opt/rack/lib/systemd/system/mainframe.service").read_text()
+    service, program, *words = re.search(r"^ExecStart=(.*)$", unit, re.M)[1].split()
+    same("command", [service, program], ["/opt/rack/lib/mainframe/service", "/opt/rack/bin/mainframe"])
+    words = [f"{image}{service}", f"{image}{program}", *words, "--port", str(port)]
+    with subprocess.Popen(words, stdin=subprocess.DEVNULL, stderr=subprocess.PIPE, text=True) as process:
+        same("what it says", process.stderr.readline(), f"mainframe: listening on 127.0.0.1:{port}\n")
+        client = [sys.executable, "-B", image / "opt/rack/lib/mainframe/swm.py", str(port)]
+        done = subprocess.run(client, input="*IDN?\n", capture_output=True, text=True, timeout=PATIENCE)
+        same("answer", done.stdout, f"{IDENTITY}\n")
+        process.send_signal(signal.SIGTERM)
+        same("status", process.wait(PATIENCE), 0)
+
+
+@in_a_repository
+def what_is_installed_may_be_replaced(repository):
+    repository.prove()
+    for _ in range(2):
+        image = installed(repository, "/usr/local")
+    same("the program", (image / "usr/local/bin/mainframe").read_bytes(),
+         (repository.root / "crates/mainframe/out/mainframe").read_bytes())
+    same("modes", [f"{(image / 'usr/local' / name).stat().st_mode & 0o777:o}" for name in FILES],
+         ["755", "755", "755", "644", "644"])
+
+
+@in_a_repository
+def make_alone_lists_its_commands(repository):
+    text = pathlib.Path(repository.root, "Makefile").read_text()
+    wanted = re.search(r"^\.PHONY: (.*)$", text, re.M)[1].split()
+    for words in ([], ["help"]):
+        done = repository.make(*words)
+        same("commands", sorted(re.findall(r"^make ([\w-]+)", done.stdout, re.M)), sorted(wanted))
+        same("standard error", done.stderr, "")
+
+
+CHECKS = [
+    nothing_is_installed_that_is_not_proved, the_unit_that_is_installed_runs, what_is_installed_may_be_replaced,
+    make_alone_lists_its_commands,
+]
