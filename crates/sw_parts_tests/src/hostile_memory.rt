@@ -1,5 +1,5 @@
 //! Library calls where a growth of memory is refused: what they answer is right or tells of that want, and what they
-//! work on stays as it was. `bench/growths` runs these tests while each growth is refused in turn.
+//! work on stays as it was. `tests/growths/run --tests` runs these while each growth is refused in turn.
 
 use crate::positions::one_each;
 use std::alloc::{AllocError, Global};

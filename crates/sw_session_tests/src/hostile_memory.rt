@@ -1,5 +1,5 @@
 //! HiSLIP's servers, and the mainframe behind them, where a growth of memory is refused: what is written is a front of
-//! what a want of memory explains. `bench/growths` runs these tests while each growth is refused in turn.
+//! what a want of memory explains. `tests/growths/run --tests` runs these while each growth is refused in turn.
 
 use crate::clients::bench;
 use crate::hostile::{Halves, Row, Served, Watched, line, plain, quiet, sent_by, serve_on};

@@ -1,5 +1,5 @@
 //! A mainframe whose running scan loses its cards, where a growth of memory is refused: until the scan has begun a want
-//! of memory may be told, and from then on nothing takes any. `bench/growths --tests` runs this while each growth is
+//! of memory may be told, and from then on nothing takes any. `tests/growths/run --tests` runs this while each growth is
 //! refused in turn.
 
 use crate::asks::{fit, misses_return};
