@@ -13,6 +13,8 @@ from support.sessions import Client
 
 SESSIONS = 16
 END = 2  # seconds within which a server ends after its input
+CANNOT_LISTEN = "mainframe: cannot listen\n"
+MOST_PORTS = 5  # that are tried, one after another, where each is taken meanwhile
 AT_LAST = 5  # seconds within which what is promised within two is done on a slow machine too
 
 
@@ -32,16 +34,22 @@ class Served:
     """The program, which serves on `port` until the block ends."""
 
     def __init__(self, program, *words, host="127.0.0.1", stdin=subprocess.DEVNULL, **options):
-        self.program = program
-        self.port = free_port(host)
-        words = [program, "serve", "--port", str(self.port), *words]
-        self.process = subprocess.Popen(words, stdin=stdin, stderr=subprocess.PIPE, text=True, **options)
-        self.remarks = [self.process.stderr.readline()]
+        self.program, self.remarks = program, [CANNOT_LISTEN]
+        tries = 0
+        while self.remarks[0] == CANNOT_LISTEN and tries < MOST_PORTS:
+            tries += 1
+            self.start(free_port(host), words, stdin, options)
         if not self.remarks[0].endswith(f":{self.port}\n"):
             self.process.kill()
             raise Failure(f"the program says {self.remarks[0]!r} in place of its address")
         self.reader = threading.Thread(target=lambda: self.remarks.extend(self.process.stderr), daemon=True)
         self.reader.start()
+
+    def start(self, port, words, stdin, options):
+        """Starts it at this port, which somebody else may have taken meanwhile, and hears its first line."""
+        self.port, words = port, [self.program, "serve", "--port", str(port), *words]
+        self.process = subprocess.Popen(words, stdin=stdin, stderr=subprocess.PIPE, text=True, **options)
+        self.remarks = [self.process.stderr.readline()]
 
     def __enter__(self):
         return self
