@@ -20,13 +20,22 @@ pub fn none_on() -> Account
 ///
 /// Contracts see which channels' coils are on, as far as that is known, and what the board's last answer has shown.
 pub trait Board: Drop {
-    ghost use Rattle.std.specs.Prelude.{◌≡◌, ◌≢◌, ◌≤◌, ℕ, Bool, List, OnOk, IsTrue, false, replicate, set};
+    ghost use Rattle.std.specs.Prelude.{◌≡◌, ◌≢◌, ◌≤◌, ℕ, Bool, List, OnOk, IsTrue, false, replicate, set, ⊤};
 
     // Whether the channel's coil is on, as far as is known.
     ghost is_on: { Self → ℕ → Bool };
 
     // The board's last answer has shown that its coils stand so, by channel, as far as it is asked.
     ghost shows: { Self → List Bool → Type 0 };
+
+    // From the first state to the second, the board was set up and asked how its coils stand, and nothing else was sent.
+    ghost looks: { Self → Self → Type 0 } = { λ _ _. ⊤ };
+
+    /// Opens the connection anew, sets the board up, and asks how its coils stand, where it tells that. Switches
+    /// nothing.
+    fn reach(&mut self) -> Result<(), DriverFault>
+        ensures fewer { (k : ℕ) → IsTrue (is_on self.new k) → IsTrue (is_on self.old k) }
+        ensures looks { OnOk result (looks self.old self.new) };
 
     /// Switches one coil. `Ok` only where the board has confirmed it. `before` is how the coils should stand. No other
     /// coil comes on.
@@ -52,6 +61,10 @@ impl Board for SimBoard {
     ghost is_on = { λ _ _. false };
 
     ghost shows = { λ _ _. ⊤ };
+
+    fn reach(&mut self) -> Result<(), DriverFault> {
+        Ok(())
+    }
 
     fn switch(&mut self, _ch: u8, _on: bool, _before: &Account) -> Result<(), DriverFault> {
         Ok(())

@@ -56,6 +56,8 @@ pub fn look<L: Wire>(
         (frame asking.wrapping asking.number asking.unit (Request.Read first count))) }
     ensures told { IfOk result (λ states. IsAll (L.answered link.new)
         (wrapped asking.wrapping asking.number (asking.unit ∷ tells count states.items))) }
+    ensures sent { OnOk result (L.sent link.new ≡ grown (L.sent link.old)
+        (frame asking.wrapping asking.number asking.unit (Request.Read first count))) }
     ensures fewer { Fewer (L.on link.old) (L.on link.new) }
 {
     let Asking {
@@ -75,6 +77,8 @@ fn ask<L: Wire>(link: &mut L, asking: Asking, request: Request) -> Result<(), Dr
     ensures asked { OnOk result (IsAll (L.asked link.new)
         (frame asking.wrapping asking.number asking.unit request)) }
     ensures answered { OnOk result (IsAll (L.answered link.new) []) }
+    ensures sent { OnOk result (L.sent link.new ≡ grown (L.sent link.old)
+        (frame asking.wrapping asking.number asking.unit request)) }
     ensures switched { Switched asking.unit request (L.on link.old) (L.on link.new) }
 {
     let Asking {
@@ -92,6 +96,7 @@ fn receive<L: Wire>(link: &mut L, asking: Asking, request: Request) -> Result<Fr
     requires { IsSmall request }
     ensures answered { IfOk result (λ frame. L.answered link.new ≡ grown (L.answered link.old) frame.items) }
     ensures asked { L.asked link.new ≡ L.asked link.old }
+    ensures sent { L.sent link.new ≡ L.sent link.old }
     ensures fewer { Fewer (L.on link.old) (L.on link.new) }
     ensures honest { OnOk result (IsHonest (L.asked link.new) (L.answered link.new) (L.on link.new)) }
 {
@@ -121,6 +126,7 @@ fn hear_more<L: Wire>(link: &mut L, frame: &mut Frame, size: usize) -> Result<()
     ensures answered { OnOk result ((more : List ℕ) × (L.answered link.new ≡ grown (L.answered link.old) more)
         × (frame.new.items ≡ frame.old.items ++ more) × (length more ≡ size)) }
     ensures asked { L.asked link.new ≡ L.asked link.old }
+    ensures sent { L.sent link.new ≡ L.sent link.old }
     ensures fewer { Fewer (L.on link.old) (L.on link.new) }
     ensures honest { OnOk result (IsHonest (L.asked link.new) (L.answered link.new) (L.on link.new)) }
 {

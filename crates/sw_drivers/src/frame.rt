@@ -1,7 +1,7 @@
 //! Frames that ask a board of coils, and frames that answer.
 
 ghost use Rattle.std.specs.Prelude.{◌≡◌, ◌≢◌, ◌+◌, ◌≤◌, ◌++◌, ◌∷◌, ◌↔◌, ℕ, length, replicate, take};
-ghost use Rattle.std.specs.Prelude.{IsTrue, IfSome, IfNone};
+ghost use Rattle.std.specs.Prelude.{List, IsTrue, IfSome, IfNone};
 ghost use Rattle.sw_drivers.specs.Frames.{IsSmall, answer_size, body, bytes_for, confirms, frame, function, refuses};
 ghost use Rattle.sw_drivers.specs.Frames.{tells, wrapped};
 
@@ -186,6 +186,8 @@ pub fn states_in(
     requires { count ≤ 99 }
     ensures told { IfSome result (λ states. bytes.now ≡ wrapped wrapping number (unit ∷ tells count states.items)) }
     ensures size { IfSome result (λ states. length states.items ≡ bytes_for count) }
+    ensures none { IfNone result ((states : List ℕ) → length states ≡ bytes_for count
+        → bytes.now ≢ wrapped wrapping number (unit ∷ tells count states)) }
 {
     let at = match wrapping {
         Wrapping::Tcp => 9,

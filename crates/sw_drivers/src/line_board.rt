@@ -1,10 +1,12 @@
 //! Boards of relays that obey lines.
 
-ghost use Rattle.std.specs.Prelude.{◌≡◌, ◌≤◌, IfOk, OnOk};
-ghost use Rattle.sw_drivers.specs.Wires.{IsAll};
+ghost use Rattle.std.specs.Prelude.{◌≡◌, ◌≢◌, ◌≤◌, ◌⊎◌, ◌↔◌, [], IfOk, OnOk, IsTrue, take};
+ghost use Rattle.sw_drivers.specs.Lines.{EndsBy, Holds, IsHeard, all_sent, reaching};
+ghost use Rattle.sw_drivers.specs.Wires.{IsAll, grown};
 
 use crate::board::{Account, Board, none_on};
 use crate::fault::DriverFault;
+use crate::setup::set_up;
 use crate::wire::Wire;
 use std::io::ErrorKind;
 
@@ -20,9 +22,11 @@ pub struct Command {
 }
 
 /// The lines that a board obeys: one for each channel to switch it on, one to switch it off, and some that switch all
-/// off. Where it tells how a channel stands, one for each channel that asks for it and wants it on, or off.
+/// off. Where it tells how a channel stands, one for each channel that asks for it and wants it on, and the same that
+/// wants it off. The lines of the setup are sent whenever the board is reached anew; their answers are not awaited.
 #[derive(Drop)]
 pub struct Commands {
+    pub setup: Vec<Vec<u8>>,
     pub on: Vec<Command>,
     pub off: Vec<Command>,
     pub clear: Vec<Command>,
@@ -82,6 +86,7 @@ impl<W: Wire> LineBoard<W> {
             return Err(DriverFault::NoConnection(ErrorKind::UnexpectedEof));
         }
         self.wire.open()?;
+        set_up(&mut self.wire, self.commands.setup.as_slice())?;
         self.compare(account)
     }
 
@@ -104,6 +109,57 @@ impl<W: Wire> LineBoard<W> {
         }
         self.compare(&none_on())
     }
+
+    /// Switches all off by a new connection.
+    fn clear_anew(&mut self) -> Result<(), DriverFault> {
+        set_up(&mut self.wire, self.commands.setup.as_slice())?;
+        self.try_clear()
+    }
+
+    fn try_reach(&mut self) -> Result<(), DriverFault>
+        ensures { OnOk result (W.sent self.new.wire ≡ grown (W.sent self.old.wire) (reaching self.old.commands)) }
+    {
+        self.wire.open()?;
+        set_up(&mut self.wire, self.commands.setup.as_slice())?;
+        look(
+            &mut self.wire,
+            self.commands.is_on.as_slice(),
+            self.commands.is_off.as_slice(),
+        )
+    }
+}
+
+/// Asks how each channel stands.
+fn look<W: Wire>(wire: &mut W, is_on: &[Command], is_off: &[Command]) -> Result<(), DriverFault>
+    ensures { OnOk result (W.sent wire.new ≡ grown (W.sent wire.old) (all_sent is_on.now)) }
+{
+    for at in 0..is_on.len() {
+        match is_off.get(at) {
+            Some(off) => ask_either(wire, &is_on[at], off)?,
+            None => return Err(DriverFault::Unwanted),
+        }
+    }
+    Ok(())
+}
+
+/// Asks how one channel stands: on or off.
+fn ask_either<W: Wire>(wire: &mut W, on: &Command, off: &Command) -> Result<(), DriverFault>
+    ensures sent { OnOk result (W.sent wire.new ≡ grown (W.sent wire.old) on.now.sent.items) }
+    ensures heard { OnOk result (on.now.end.items ≢ []
+        → IsHeard (W.answered wire.new) on.now.end.items on.now.wanted.items
+        ⊎ IsHeard (W.answered wire.new) on.now.end.items off.now.wanted.items) }
+{
+    let mut answer = [0_u8; ANSWER];
+    let length = ask(wire, on, &mut answer)?;
+    let heard = &answer[..length];
+    if on.end.is_empty() || has(heard, on.wanted.as_slice()) {
+        return Ok(());
+    }
+    if has(heard, off.wanted.as_slice()) {
+        Ok(())
+    } else {
+        Err(DriverFault::Unwanted)
+    }
 }
 
 /// Sends this channel's command.
@@ -116,21 +172,40 @@ fn obey_at<W: Wire>(wire: &mut W, commands: &[Command], ch: u8) -> Result<(), Dr
 
 /// Sends a command, and reads its answer.
 fn obey<W: Wire>(wire: &mut W, command: &Command) -> Result<(), DriverFault>
-    ensures { OnOk result (IsAll (W.asked wire.new) command.now.sent.items) }
+    ensures asked { OnOk result (IsAll (W.asked wire.new) command.now.sent.items) }
+    ensures heard { OnOk result (command.now.end.items ≢ []
+        → IsHeard (W.answered wire.new) command.now.end.items command.now.wanted.items) }
+{
+    let mut answer = [0_u8; ANSWER];
+    let length = ask(wire, command, &mut answer)?;
+    if command.end.is_empty() || has(&answer[..length], command.wanted.as_slice()) {
+        Ok(())
+    } else {
+        Err(DriverFault::Unwanted)
+    }
+}
+
+/// Sends a command, hears its answer, where one is read, and tells how many bytes it has.
+fn ask<W: Wire>(
+    wire: &mut W,
+    command: &Command,
+    answer: &mut [u8; ANSWER],
+) -> Result<usize, DriverFault>
+    ensures within { IfOk result (λ length. length ≤ 256) }
+    ensures asked { OnOk result (IsAll (W.asked wire.new) command.now.sent.items) }
+    ensures sent { OnOk result (W.sent wire.new ≡ grown (W.sent wire.old) command.now.sent.items) }
+    ensures heard { IfOk result (λ length. command.now.end.items ≢ []
+        → IsAll (W.answered wire.new) (take length answer.new)) }
+    ensures end { IfOk result (λ length. command.now.end.items ≢ []
+        → EndsBy (take length answer.new) command.now.end.items) }
 {
     wire.begin()?;
     wire.send(command.sent.as_slice())?;
     let end = command.end.as_slice();
     if end.is_empty() {
-        return Ok(());
+        return Ok(0);
     }
-    let mut answer = [0_u8; ANSWER];
-    let length = hear_line(wire, end, &mut answer)?;
-    if has(&answer[..length], command.wanted.as_slice()) {
-        Ok(())
-    } else {
-        Err(DriverFault::Unwanted)
-    }
+    hear_line(wire, end, answer)
 }
 
 /// Hears up to these bytes, and tells how many bytes came.
@@ -141,6 +216,9 @@ fn hear_line<W: Wire>(
 ) -> Result<usize, DriverFault>
     ensures within { IfOk result (λ length. length ≤ 256) }
     ensures asked { W.asked wire.new ≡ W.asked wire.old }
+    ensures sent { W.sent wire.new ≡ W.sent wire.old }
+    ensures heard { IfOk result (λ length. W.answered wire.new ≡ grown (W.answered wire.old) (take length answer.new)) }
+    ensures end { IfOk result (λ length. EndsBy (take length answer.new) end.now) }
 {
     let mut length = 0;
     for _ in 0..ANSWER {
@@ -157,7 +235,9 @@ fn hear_line<W: Wire>(
 }
 
 /// Whether these bytes stand somewhere in the text.
-fn has(text: &[u8], wanted: &[u8]) -> bool {
+fn has(text: &[u8], wanted: &[u8]) -> bool
+    ensures { IsTrue result ↔ Holds text.now wanted.now }
+{
     for from in 0..text.len() {
         if text[from..].starts_with(wanted) {
             return true;
@@ -173,6 +253,16 @@ impl<W: Wire> Board for LineBoard<W> {
 
     ghost shows = { λ _ _. ⊤ };
 
+    ghost looks = { λ b c. W.sent c.wire ≡ grown (W.sent b.wire) (reaching b.commands) };
+
+    fn reach(&mut self) -> Result<(), DriverFault> {
+        let done = self.try_reach();
+        if done.is_err() {
+            self.wire.close();
+        }
+        done
+    }
+
     fn switch(&mut self, ch: u8, on: bool, before: &Account) -> Result<(), DriverFault> {
         let done = self.try_switch(ch, on, before);
         if done.is_err() {
@@ -187,7 +277,7 @@ impl<W: Wire> Board for LineBoard<W> {
             return Ok(());
         }
         self.wire.open()?;
-        let done = self.try_clear();
+        let done = self.clear_anew();
         if done.is_err() {
             self.wire.rest();
         }

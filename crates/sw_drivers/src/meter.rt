@@ -1,8 +1,11 @@
 //! Meters that speak SCPI.
 
-ghost use Rattle.std.specs.Prelude.{◌≤◌, IfOk};
+ghost use Rattle.std.specs.Prelude.{◌≡◌, ◌≤◌, IfOk, OnOk};
+ghost use Rattle.sw_drivers.specs.Lines.{all_lines};
+ghost use Rattle.sw_drivers.specs.Wires.{grown};
 
 use crate::fault::{DriverFault, Told};
+use crate::setup::set_up;
 use crate::volts::reading_of;
 use crate::wire::Wire;
 use sw_base::Reading;
@@ -23,14 +26,17 @@ pub struct ScpiMeter<W: Wire, T: Told + Drop> {
 }
 
 impl<W: Wire, T: Told + Drop> ScpiMeter<W, T> {
-    /// The meter at the other end, once it is reached and set up; or why not. Each line ends as the meter wants it.
+    /// The meter at the other end, once it is reached and set up; or why not. No reading is asked for. Each line ends as
+    /// the meter wants it.
     pub fn new(
         wire: W,
         slot: u8,
         setup: Vec<Vec<u8>>,
         query: Vec<u8>,
         told: T,
-    ) -> Result<Self, DriverFault> {
+    ) -> Result<Self, DriverFault>
+        ensures { IfOk result (λ meter. W.sent meter.wire ≡ grown (W.sent wire) (all_lines setup.items)) }
+    {
         let mut meter = ScpiMeter {
             wire,
             slot,
@@ -42,13 +48,11 @@ impl<W: Wire, T: Told + Drop> ScpiMeter<W, T> {
         Ok(meter)
     }
 
-    fn reach(&mut self) -> Result<(), DriverFault> {
+    fn reach(&mut self) -> Result<(), DriverFault>
+        ensures { OnOk result (W.sent self.new.wire ≡ grown (W.sent self.old.wire) (all_lines self.old.setup.items)) }
+    {
         self.wire.open()?;
-        self.wire.begin()?;
-        for line in &self.setup {
-            self.wire.send(line.as_slice())?;
-        }
-        Ok(())
+        set_up(&mut self.wire, self.setup.as_slice())
     }
 
     fn ask(&mut self) -> Result<Reading, DriverFault> {

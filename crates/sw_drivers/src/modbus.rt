@@ -1,15 +1,15 @@
 //! Boards of coils that speak Modbus.
 
-ghost use Rattle.std.specs.Prelude.{◌≡◌, ◌≢◌, ◌<◌, ◌≤◌, ◌+◌, ◌/◌, ℕ, OnOk, IfNone, IsTrue, false, length, replicate};
+ghost use Rattle.std.specs.Prelude.{◌≡◌, ◌≢◌, ◌<◌, ◌≤◌, ◌+◌, ◌/◌, ℕ, List, IfOk, OnOk, IfNone, IsTrue, false, length, replicate};
 ghost use Rattle.std.specs.Prelude.{set, slice_index_or};
-ghost use Rattle.sw_drivers.specs.Boards.{HasShown, channel_on};
+ghost use Rattle.sw_drivers.specs.Boards.{HasShown, HasTold, channel_on};
 ghost use Rattle.sw_drivers.specs.Wires.{Fewer, is_on};
 
 use crate::board::{Account, Board, none_on};
 use crate::coils::Coils;
 use crate::exchange::{Asking, change, look};
 use crate::fault::DriverFault;
-use crate::frame::Request;
+use crate::frame::{Frame, Request};
 use crate::wire::Wire;
 
 /// A board that switches coils and answers how they stand.
@@ -48,6 +48,23 @@ impl<W: Wire> ModbusBoard<W> {
         }
     }
 
+    /// What the board tells of its coils.
+    fn states(&mut self) -> Result<Frame, DriverFault>
+        ensures coils { self.new.coils ≡ self.old.coils }
+        ensures fewer { Fewer (W.on self.old.wire) (W.on self.new.wire) }
+        ensures told { IfOk result (λ states. HasTold (W.sent self.old.wire) (W.sent self.new.wire)
+            (W.asked self.new.wire) (W.answered self.new.wire) self.old.coils states.items) }
+    {
+        let asking = self.asking();
+        let coils = self.coils;
+        look(
+            &mut self.wire,
+            asking,
+            coils.first,
+            u16::from(coils.channels),
+        )
+    }
+
     /// Compares the account with the board's own word.
     fn compare(&mut self, account: &Account) -> Result<(), DriverFault>
         ensures coils { self.new.coils ≡ self.old.coils }
@@ -55,15 +72,8 @@ impl<W: Wire> ModbusBoard<W> {
         ensures shown { OnOk result (HasShown (W.asked self.new.wire) (W.answered self.new.wire) self.old.coils
             account.now) }
     {
-        let asking = self.asking();
-        let coils = self.coils;
-        let states = look(
-            &mut self.wire,
-            asking,
-            coils.first,
-            u16::from(coils.channels),
-        )?;
-        match first_other(states.as_slice(), coils.channels, account) {
+        let states = self.states()?;
+        match first_other(states.as_slice(), self.coils.channels, account) {
             Some(ch) => Err(DriverFault::Differs(ch)),
             None => Ok(()),
         }
@@ -79,6 +89,17 @@ impl<W: Wire> ModbusBoard<W> {
         }
         self.wire.open()?;
         self.compare(account)
+    }
+
+    fn try_reach(&mut self) -> Result<(), DriverFault>
+        ensures coils { self.new.coils ≡ self.old.coils }
+        ensures fewer { Fewer (W.on self.old.wire) (W.on self.new.wire) }
+        ensures told { OnOk result ((states : List ℕ) × HasTold (W.sent self.old.wire) (W.sent self.new.wire)
+            (W.asked self.new.wire) (W.answered self.new.wire) self.old.coils states) }
+    {
+        self.wire.open()?;
+        self.states()?;
+        Ok(())
     }
 
     fn try_switch(&mut self, ch: u8, on: bool, before: &Account) -> Result<(), DriverFault>
@@ -145,6 +166,17 @@ impl<W: Wire> Board for ModbusBoard<W> {
 
     ghost shows = { λ b account. IsTrue b.coils.verified
         → HasShown (W.asked b.wire) (W.answered b.wire) b.coils account };
+
+    ghost looks = { λ b c. (states : List ℕ) × HasTold (W.sent b.wire) (W.sent c.wire) (W.asked c.wire)
+        (W.answered c.wire) b.coils states };
+
+    fn reach(&mut self) -> Result<(), DriverFault> {
+        let done = self.try_reach();
+        if done.is_err() {
+            self.wire.close();
+        }
+        done
+    }
 
     fn switch(&mut self, ch: u8, on: bool, before: &Account) -> Result<(), DriverFault> {
         let done = self.try_switch(ch, on, before);

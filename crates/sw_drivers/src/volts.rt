@@ -1,6 +1,6 @@
 //! Readings as meters write them.
 
-ghost use Rattle.std.specs.Prelude.{◌≡◌, ◌⊎◌, IsTrue, IfOk, IfErr, pos, codes};
+ghost use Rattle.std.specs.Prelude.{◌≡◌, ◌⊎◌, ◌↔◌, IsTrue, IfOk, IfErr, OnOk, pos, codes};
 ghost use Rattle.sw_base.specs.Number.{IsRefusedNumber, rounded};
 ghost use Rattle.sw_base.specs.declared.error.ScpiError.{ScpiError};
 ghost use Rattle.sw_drivers.specs.Readings.{IsNan, IsReading};
@@ -14,6 +14,7 @@ use sw_base::{Nrf, Reading, read_exponent, read_mantissa};
 /// says that there is none (9.91E37; SCPI-1999, 7.2.1.5).
 pub fn reading_of(answer: &[u8]) -> Result<Reading, DriverFault>
     ensures reading { IfOk result (λ reading. IsReading answer.now reading) }
+    ensures some { OnOk result (IsNan answer.now → ⊥) }
     ensures garbled { IfErr result (λ fault. (fault ≡ Fault.Garbled)
         × (IsNan answer.now ⊎ ((cause : ScpiError) × IsRefusedNumber answer.now cause))) }
 {
@@ -31,7 +32,7 @@ pub fn reading_of(answer: &[u8]) -> Result<Reading, DriverFault>
 
 /// Whether the text begins with 9.91E37, the exponent of two or three digits.
 fn is_nan(text: &[u8]) -> bool
-    ensures { IsTrue result → IsNan text.now }
+    ensures { IsTrue result ↔ IsNan text.now }
 {
     let Some((mantissa, rest)) = read_mantissa(text) else {
         return false;
@@ -47,7 +48,7 @@ fn is_nan(text: &[u8]) -> bool
 
 /// Whether the number is 9.91.
 fn is_size(number: &Nrf<'_>) -> bool
-    ensures { IsTrue result → rounded number.now 9 ≡ pos 9910000000 }
+    ensures { IsTrue result ↔ (rounded number.now 9 ≡ pos 9910000000) }
 {
     match number.billionths() {
         Ok(size) => size == 9_910_000_000,
@@ -57,7 +58,7 @@ fn is_size(number: &Nrf<'_>) -> bool
 
 /// Whether these digits are 37.
 fn is_tens(digits: &[u8]) -> bool
-    ensures { IsTrue result → (digits.now ≡ codes "37") ⊎ (digits.now ≡ codes "037") }
+    ensures { IsTrue result ↔ ((digits.now ≡ codes "37") ⊎ (digits.now ≡ codes "037")) }
 {
     digits == b"37".as_slice() || digits == b"037".as_slice()
 }

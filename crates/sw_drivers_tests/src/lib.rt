@@ -11,4 +11,6 @@ mod lines;
 #[cfg(test)]
 mod meters;
 #[cfg(test)]
+mod reaching;
+#[cfg(test)]
 mod script;

@@ -41,7 +41,8 @@ impl<W: Wait + Copy + Drop> Record<W> {
 }
 
 /// A wire that answers each exchange by the next of its answers, a byte at a time. An answer of no bytes is none: what
-/// is heard then fails for time. A `!` put into the record is an opening, a `.` a closing.
+/// is heard then fails for time. A `!` put into the record is an opening, a `.` a closing. The other side can end a
+/// connection that stands idle, after so many exchanges.
 #[derive(Drop)]
 pub struct Script<W: Wait + Copy + Drop> {
     record: Record<W>,
@@ -49,6 +50,7 @@ pub struct Script<W: Wait + Copy + Drop> {
     next: usize,
     at: usize,
     is_open: bool,
+    ends_after: usize,
 }
 
 impl<W: Wait + Copy + Drop> Script<W> {
@@ -65,7 +67,14 @@ impl<W: Wait + Copy + Drop> Script<W> {
             next: 0,
             at: 0,
             is_open: false,
+            ends_after: usize::MAX,
         })
+    }
+
+    /// The same, whose first connection is ended by the other side after so many exchanges.
+    pub fn ended_after(mut self, exchanges: usize) -> Self {
+        self.ends_after = exchanges;
+        self
     }
 
     fn heard(&mut self) -> io::Result<u8> {
@@ -90,6 +99,9 @@ impl<W: Wait + Copy + Drop> Wire for Script<W> {
     fn open(&mut self) -> io::Result<()> {
         self.record.put(b"!");
         self.is_open = true;
+        if self.next >= self.ends_after {
+            self.ends_after = usize::MAX;
+        }
         Ok(())
     }
 
@@ -98,7 +110,7 @@ impl<W: Wait + Copy + Drop> Wire for Script<W> {
     }
 
     fn begin(&mut self) -> io::Result<()> {
-        if self.is_open {
+        if self.is_open && self.next < self.ends_after {
             Ok(())
         } else {
             Err(io::Error::from(ErrorKind::UnexpectedEof))
