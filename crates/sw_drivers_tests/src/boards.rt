@@ -151,3 +151,24 @@ fn a_board_begins_with_all_off(rt: HostRuntime) -> Result<(), Fail> {
     }
     Ok(())
 }
+
+/// A board that answers no cut is tried by the connection that stands, once by a new one, and then rests.
+fn rests<W: Wait + Copy + Drop>(rt: W, alloc: Global) -> Option<bool> {
+    let record = Record::new(rt, alloc).ok()?;
+    let interlock = Interlock::new(alloc).ok()?;
+    let mut board = made(alloc, &record, &interlock, &[CLEARED, NONE_ON])?;
+    let is_begun = record.took(START);
+    board.cut();
+    let is_cut = record.took(&[
+        0, 3, 0, 0, 0, 8, 1, 15, 0, 8, 0, 3, 1, 0, b'!', 0, 4, 0, 0, 0, 8, 1, 15, 0, 8, 0, 3, 1, 0,
+        b'-',
+    ]);
+    Some(is_begun && is_cut)
+}
+
+#[test]
+fn a_board_that_does_not_answer_rests(rt: HostRuntime) -> Result<(), Fail> {
+    let is_so = rests(rt, rt.alloc());
+    assert_eq!(rt; is_so, Some(true));
+    Ok(())
+}

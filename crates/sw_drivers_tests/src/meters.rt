@@ -50,6 +50,8 @@ fn overloads_and_no_numbers(rt: HostRuntime) -> Result<(), Fail> {
         b"-9.90000000E+37".as_slice(),
         b"9223372036.854775808".as_slice(),
         b"9.92E+37".as_slice(),
+        b"9.91E+36".as_slice(),
+        b"9.91E+137".as_slice(),
     ] {
         assert!(rt; is_overload(answer));
     }
