@@ -28,7 +28,7 @@ pub trait Board: Drop {
     // The board's last answer has shown that its coils stand so, by channel, as far as it is asked.
     ghost shows: { Self → List Bool → Type 0 };
 
-    // From the first state to the second, the board was set up and asked how its coils stand, and nothing else was sent.
+    // From the first state to the second the board was set up and asked how its coils stand, and was sent nothing else.
     ghost looks: { Self → Self → Type 0 } = { λ _ _. ⊤ };
 
     /// Opens the connection anew, sets the board up, and asks how its coils stand, where it tells that. Switches

@@ -2,7 +2,8 @@
 //!
 //! The crate's contract to the layers above: a frame of Modbus is exactly that of the definitions (`specs/Frames`); a
 //! `Kept` board keeps the clauses of a driver over any board, and switches nothing on while another's relays may be
-//! closed against its account. A board that is reached is set up and asked how its coils stand, and is sent nothing else.
+//! closed against its account. A board that is reached is set up and asked how its coils stand, and is sent nothing
+//! else.
 //!
 //! Nothing is promised of a board itself, nor of what a line carries.
 #![tactic(auto)]

@@ -26,8 +26,8 @@ pub struct ScpiMeter<W: Wire, T: Told + Drop> {
 }
 
 impl<W: Wire, T: Told + Drop> ScpiMeter<W, T> {
-    /// The meter at the other end, once it is reached and set up; or why not. No reading is asked for. Each line ends as
-    /// the meter wants it.
+    /// The meter at the other end, once it is reached and set up; or why not. No reading is asked for. Each line ends
+    /// as the meter wants it.
     pub fn new(
         wire: W,
         slot: u8,

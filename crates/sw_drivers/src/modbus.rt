@@ -1,7 +1,7 @@
 //! Boards of coils that speak Modbus.
 
-ghost use Rattle.std.specs.Prelude.{◌≡◌, ◌≢◌, ◌<◌, ◌≤◌, ◌+◌, ◌/◌, ℕ, List, IfOk, OnOk, IfNone, IsTrue, false, length, replicate};
-ghost use Rattle.std.specs.Prelude.{set, slice_index_or};
+ghost use Rattle.std.specs.Prelude.{◌≡◌, ◌≢◌, ◌<◌, ◌≤◌, ◌+◌, ◌/◌, ℕ, OnOk, IfNone, IsTrue, false, length, replicate};
+ghost use Rattle.std.specs.Prelude.{List, IfOk, set, slice_index_or};
 ghost use Rattle.sw_drivers.specs.Boards.{HasShown, HasTold, channel_on};
 ghost use Rattle.sw_drivers.specs.Wires.{Fewer, is_on};
 

@@ -41,8 +41,8 @@ impl<W: Wait + Copy + Drop> Record<W> {
 }
 
 /// A wire that answers each exchange by the next of its answers, a byte at a time. An answer of no bytes is none: what
-/// is heard then fails for time. A `!` put into the record is an opening, a `.` a closing, a `-` a rest. The other side can
-/// end a connection that stands idle, after so many exchanges.
+/// is heard then fails for time. A `!` put into the record is an opening, a `.` a closing, a `-` a rest. The other side
+/// can end a connection that stands idle, after so many exchanges.
 #[derive(Drop)]
 pub struct Script<W: Wait + Copy + Drop> {
     record: Record<W>,
