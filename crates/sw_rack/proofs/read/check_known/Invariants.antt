@@ -1,0 +1,9 @@
+use Rattle.std.proofs.Common.{◌≡◌}
+use Rattle.toml.specs.View.{members_view}
+use Rattle.sw_rack.specs.Racks.{all_known}
+use Rattle.sw_rack.proofs.read.check_known.Given as goal
+
+abbrev pub invariant-loop-name : goal.invariant-loop-name
+invariant-loop-name l =
+    (goal.iterator-loop-name).can_next l.name-iterator × (goal.iterator-loop-name).is_finite l.name-iterator
+    × (all_known (members_view l.name-iterator) ≡ all_known (members_view l.table.entries))

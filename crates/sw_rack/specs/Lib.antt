@@ -1,0 +1,10 @@
+pub mod Keys
+pub mod Forms
+pub mod Reading
+pub mod Fields
+pub mod Seen
+pub mod Templates
+pub mod Cards
+pub mod Ascending
+pub mod Lines
+pub mod Racks
