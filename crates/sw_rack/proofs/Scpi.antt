@@ -1,11 +1,11 @@
 -- What the table of a SCPI instrument's relays gives, key by key.
-use Rattle.std.proofs.Common.{◌≡◌, ℕ, List, [], ◌∷◌, Some, Result, Ok, Err, codes, refl}
+use Rattle.std.proofs.Common.{◌≡◌, ℕ, List, [], ◌∷◌, Some, Ok, codes, refl}
 use Rattle.toml.specs.Data.{Members}
 use Rattle.sw_rack.specs.declared.cause.ReadError.{ReadError}
 use Rattle.sw_rack.specs.declared.cause.ReadError.TheVariants as errors
 use Rattle.sw_rack.specs.declared.key.Key.TheVariants as keys
 use Rattle.sw_rack.specs.Reading.{Fails}
-use Rattle.sw_rack.specs.Seen.{PlaceSeen, StateSeen, LinesSeen}
+use Rattle.sw_rack.specs.Seen.{PlaceSeen, StateSeen}
 use Rattle.sw_rack.specs.Cards.{number_or, place_of, scpi_lines_of, scpi_state_of, template_or, texts_or}
 
 -- all but what is sent when it is reached

@@ -19,7 +19,7 @@ use Rattle.sw_rack.specs.Forms.{takes}
 use Rattle.sw_rack.specs.Reading.{Miss, ◌>>=◌}
 use Rattle.sw_rack.specs.Fields.{otherwise, wanted, text_at, number_at, integer_at, flag_at, groups_at, texts_at}
 use Rattle.sw_rack.specs.Templates.{rendered}
-use Rattle.sw_rack.specs.Seen.{PlaceSeen, Address, Device, Waiting, ModbusSeen, StateSeen, LinesSeen, QuerySeen}
+use Rattle.sw_rack.specs.Seen.{PlaceSeen, Address, Device, Waiting, ModbusSeen, StateSeen, LinesSeen}
 use Rattle.sw_rack.specs.Seen.{RelaysSeen, SimulatedRelays, TcpRelays, RtuRelays, LineRelays, ScpiRelays}
 use Rattle.sw_rack.specs.Seen.{MeterSeen, SimulatedMeter, ScpiMeter, KindSeen, RelayCard, MeterCard, CardSeen}
 

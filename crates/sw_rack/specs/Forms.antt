@@ -4,9 +4,7 @@ use Rattle.sw_rack.specs.declared.key.Key.{Key}
 use Rattle.sw_rack.specs.declared.key.Key.TheVariants as keys
 use Rattle.sw_rack.specs.declared.form.Form.{Form}
 use Rattle.sw_rack.specs.declared.form.Form.TheVariants.{Relays, Meter}
-use Rattle.sw_rack.specs.declared.form.RelayForm.{RelayForm}
 use Rattle.sw_rack.specs.declared.form.RelayForm.TheVariants as relays
-use Rattle.sw_rack.specs.declared.form.MeterForm.{MeterForm}
 use Rattle.sw_rack.specs.declared.form.MeterForm.TheVariants as meter
 
 abbrev pub is_relays : Form → Bool

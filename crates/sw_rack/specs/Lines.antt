@@ -7,7 +7,6 @@ use Rattle.toml.specs.Data.{Data, table, Members, get_member}
 use Rattle.toml.specs.Parse.{parse_document}
 use Rattle.sw_rack.specs.declared.cause.Cause.{Cause}
 use Rattle.sw_rack.specs.declared.cause.Cause.TheVariants as causes
-use Rattle.sw_rack.specs.declared.cause.Choice.{Choice}
 use Rattle.sw_rack.specs.declared.cause.Choice.TheVariants as choices
 use Rattle.sw_rack.specs.declared.rack_fault.RackFault.{RackFault}
 use Rattle.sw_rack.specs.declared.key.Key.TheVariants as keys

@@ -1,6 +1,6 @@
 -- What a file means: the cards of a rack, or its first fault.
-use Rattle.std.specs.Prelude.{◌≡◌, ℕ, zero, suc, ◌+◌, ◌==◌, ◌||◌, ℤ, pos, negsuc, Bool, true, false, List, []}
-use Rattle.std.specs.Prelude.{◌∷◌, ◌++◌, map, Option, Some, None, Result, Ok, Err, codes, string_bytes, if◌then◌else◌}
+use Rattle.std.specs.Prelude.{◌≡◌, ℕ, zero, suc, ◌+◌, ◌==◌, ◌||◌, ℤ, pos, negsuc, Bool, false, List, []}
+use Rattle.std.specs.Prelude.{◌++◌, map, Option, Some, None, Result, Ok, Err, codes, string_bytes, if◌then◌else◌}
 use Rattle.std.specs.Option.{option_to_list}
 use Rattle.std.specs.Str.{bytes_eq}
 use Rattle.toml.specs.Data.{Data, integer, table, Members, no_members, member, get_member, type_name}

@@ -1,5 +1,5 @@
 -- Cards as their descriptions: texts are their bytes.
-use Rattle.std.specs.Prelude.{ℕ, ℤ, Bool, List, map, Option, Some, None, option_map, string_bytes, String}
+use Rattle.std.specs.Prelude.{ℕ, ℤ, Bool, List, map, Option, option_map, string_bytes, String}
 use Rattle.std.specs.declared.alloc.Global.{Global}
 use Rattle.sw_rack.specs.declared.rack.RackCard.{RackCard}
 use Rattle.sw_rack.specs.declared.rack.CardKind.{CardKind}
