@@ -5,8 +5,8 @@
 # make serve: serves HiSLIP clients on port 4880 of this machine by the proved program, until Ctrl-C; PORT=4881: on that
 #             port; ADDRESS=192.168.1.5: at that address, for whoever reaches it.
 # make try-serve: likewise by the unproved program.
-# make install: copies the proved program, the client, the service and its unit below /usr/local; PREFIX=/opt/rack:
-#             below that folder; DESTDIR=image: into that folder as if it were the root.
+# make install: copies the proved program, the client, the service and its unit below /usr/local, with a manual page of
+#             the commands; PREFIX=/opt/rack: below that folder; DESTDIR=image: into that folder as if it were the root.
 # make test:  the whole gate.
 # make tests: tries the program that is built, without any proof; PART=clients: by one part (a folder of tests).
 # make wrong: tries every wrong body, whatever is recorded of it.
@@ -21,6 +21,7 @@ export RT
 PREFIX ?= /usr/local
 LIBRARY = $(PREFIX)/lib/mainframe
 UNITS = $(PREFIX)/lib/systemd/system
+MANUAL = $(PREFIX)/share/man/man1
 AT = --address $(or $(ADDRESS),127.0.0.1) --port $(or $(PORT),4880)
 BUILT = crates/mainframe/out/mainframe
 
@@ -40,10 +41,11 @@ serve try-serve:
 
 install:
 	@program=$$(build/program proved) && install -D "$$program" "$(DESTDIR)$(PREFIX)/bin/mainframe"
-	@install -d "$(DESTDIR)$(LIBRARY)" "$(DESTDIR)$(UNITS)"
+	@install -d "$(DESTDIR)$(LIBRARY)" "$(DESTDIR)$(UNITS)" "$(DESTDIR)$(MANUAL)"
 	@install examples/service examples/swm.py "$(DESTDIR)$(LIBRARY)"
 	@install -m 644 examples/terminal.py "$(DESTDIR)$(LIBRARY)"
 	@sed 's|/usr/local|$(PREFIX)|g' examples/mainframe.service > "$(DESTDIR)$(UNITS)/mainframe.service"
+	@build/manual > "$(DESTDIR)$(MANUAL)/mainframe.1"
 
 test:
 	@./gate

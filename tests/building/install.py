@@ -1,6 +1,9 @@
-"""`make install`: what it copies where, and that it runs there; `make help`: a line for each command."""
+"""`make install`: what it copies where, that it runs there, and that `man` shows its page; `make help`: a line for each
+command."""
+import os
 import pathlib
 import re
+import shutil
 import signal
 import subprocess
 import sys
@@ -11,7 +14,8 @@ from support.server import free_port
 from repository import begins, in_a_repository
 
 FILES = ["bin/mainframe", "lib/mainframe/service", "lib/mainframe/swm.py", "lib/mainframe/terminal.py",
-         "lib/systemd/system/mainframe.service"]
+         "lib/systemd/system/mainframe.service", "share/man/man1/mainframe.1"]
+SECTIONS = ["NAME", "SYNOPSIS", "DESCRIPTION", "A message", "Commands", "Macros", "SEE ALSO"]
 
 
 def installed(repository, prefix):
@@ -59,7 +63,27 @@ def what_is_installed_may_be_replaced(repository):
     same("the program", (image / "usr/local/bin/mainframe").read_bytes(),
          (repository.root / "crates/mainframe/out/mainframe").read_bytes())
     same("modes", [f"{(image / 'usr/local' / name).stat().st_mode & 0o777:o}" for name in FILES],
-         ["755", "755", "755", "644", "644"])
+         ["755", "755", "755", "644", "644", "644"])
+
+
+@in_a_repository
+def the_manual_page_has_each_command_and_session(repository):
+    """As `man` shows it, without a warning, on lines so wide that none is broken."""
+    repository.prove()
+    page = installed(repository, "/usr/local") / "usr/local/share/man/man1/mainframe.1"
+    if not shutil.which("man"):
+        print("man is not installed: the manual page was not shown")
+        return
+    done = subprocess.run(["man", "--warnings", "-E", "ascii", "-l", page], capture_output=True, text=True,
+                          timeout=PATIENCE, env={**os.environ, "MANWIDTH": "4000", "MAN_KEEP_FORMATTING": ""})
+    same("status and warnings", (done.returncode, done.stderr), (0, ""))
+    shown = [line.strip() for line in done.stdout.splitlines()]
+    same("the first line of each part", [it for it in SECTIONS if it not in shown], [])
+    text = (repository.root / "docs/COMMANDS.md").read_text()
+    heads = [re.sub(r"[`|].*", "", it[1]) for it in re.finditer(r"^\| `([A-Z*].*)", text, re.M)]
+    blocks = [it[1].strip() for it in re.finditer(r"^    (.*)", text, re.M)]
+    same("commands that are missing", [it for it in heads if not any(line.startswith(it) for line in shown)], [])
+    same("lines that are missing", [it for it in blocks if it not in shown], [])
 
 
 @in_a_repository
@@ -74,5 +98,5 @@ def make_alone_lists_its_commands(repository):
 
 CHECKS = [
     nothing_is_installed_that_is_not_proved, the_unit_that_is_installed_runs, what_is_installed_may_be_replaced,
-    make_alone_lists_its_commands,
+    the_manual_page_has_each_command_and_session, make_alone_lists_its_commands,
 ]
