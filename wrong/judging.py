@@ -1,0 +1,241 @@
+"""What the prover says of wrong bodies, and which of them that refuses.
+
+Edits of different functions are tried together in one check, since each function is proved against the contracts of
+the others and not against their bodies. An edit counts as refused there only by an open goal or an error of its own
+function. Where the check didn't come to a function because it calls another that is turned too, the edit is tried
+together with those left over; what is not seen to be refused otherwise is tried once more alone. An edit that the
+prover cannot read is a fault of the edit, and is found by halves of its batch. An edit without a function is tried
+alone; one of a definition by a check of the law that it names, and no more of the crate.
+"""
+import os
+import re
+import shutil
+import subprocess
+import tempfile
+
+PARTS = ("src", "specs", "proofs")
+RT = os.environ.get("RT", "rt")
+# A proof file that names what an edit took away says nothing of the contract.
+NAMES = re.compile(r"has no field|is not in scope|has no `|was not admitted|is no name|record `[^`]*` \(nearest")
+
+
+def applied(edit, texts, folder):
+    """The texts of the files with an edit put in, or None where it cannot be put in beside what is there."""
+    made = dict(texts)
+    for path, old, new in edit.pairs:
+        if path not in made:
+            with open(f"{folder}/{path}", encoding="utf-8") as it:
+                made[path] = it.read()
+        if made[path].count(old) != 1:
+            return None
+        made[path] = made[path].replace(old, new)
+    return made
+
+
+def stands_in_its_function(edit, folder):
+    """Whether each text that an edit replaces stands in the function that it names."""
+    name = edit.function.split("::")[-1]
+    for path, old, _ in edit.pairs:
+        with open(f"{folder}/{path}", encoding="utf-8") as it:
+            text = it.read()
+        at = text.find(old)
+        heads = re.findall(r"(?m)^\s*(?:pub(?:\([a-z]+\))? )?(?:const |unsafe )*fn (\w+)", text[: at + len(old)])
+        if at >= 0 and (not heads or heads[-1] != name):
+            return False
+    return True
+
+
+def fault_of(edit, folder):
+    """Why an edit is none of the crate in this folder, if so."""
+    if edit.fault:
+        return edit.fault
+    absent = [it for it, _, _ in edit.pairs if not os.path.isfile(f"{folder}/{it}")]
+    if absent:
+        return f"the crate has no file {absent[0]}"
+    if applied(edit, {}, folder) is None:
+        return "an `old:` text does not stand once in its file"
+    if edit.function and not edit.turns_definition() and not stands_in_its_function(edit, folder):
+        return "it changes another function than its line `fn:` names"
+    return None
+
+
+class Room:
+    """A copy of a crate and of what it stands on, where edits are put in and checked."""
+
+    def __init__(self, repository, crate, at, jobs):
+        self.crate, self.jobs, self.folder = crate, jobs, f"{at}/crates/{crate}"
+        self.clean = f"{repository.root}/crates/{crate}"
+        crates = repository.closure(crate)
+        with open(f"{at}/crates.txt", "w", encoding="utf-8") as it:
+            it.writelines(f"{name}: {' '.join(repository.below[name])}\n" for name in crates)
+        if os.path.isfile(f"{repository.root}/HANDLES"):
+            shutil.copy(f"{repository.root}/HANDLES", at)
+        for name in crates:
+            kept = ("out/rlib", "out/incremental") if name == crate else ("out/rlib",)
+            for part in (*PARTS, *kept):
+                if os.path.isdir(f"{repository.root}/crates/{name}/{part}"):
+                    shutil.copytree(f"{repository.root}/crates/{name}/{part}", f"{at}/crates/{name}/{part}")
+
+    def check(self, texts, only=None):
+        """What a check says of the crate with these texts in place of its own, or of one function of it."""
+        for part in ("src", "specs"):
+            shutil.rmtree(f"{self.folder}/{part}", ignore_errors=True)
+            if os.path.isdir(f"{self.clean}/{part}"):
+                shutil.copytree(f"{self.clean}/{part}", f"{self.folder}/{part}")
+        for path, text in texts.items():
+            with open(f"{self.folder}/{path}", "w", encoding="utf-8") as it:
+                it.write(text)
+        words = [RT, "check", "--jobs", str(self.jobs)] + (["--only", f"{self.crate}::{only}"] if only else [])
+        ran = subprocess.run(words, cwd=self.folder, stdin=subprocess.DEVNULL,
+                             stdout=subprocess.PIPE, stderr=subprocess.STDOUT, text=True, errors="replace")
+        return Said(self.crate, ran.returncode, ran.stdout.split("\n"))
+
+
+class Said:
+    """What a check said, by function."""
+
+    def __init__(self, crate, status, lines):
+        self.lines = lines
+        verdict = next((it for it in reversed(lines) if it.startswith("logic=")), "")
+        self.is_proved = status == 0 and verdict.startswith("logic=proved")
+        self.is_judged = self.is_proved or verdict.startswith("logic=not-proved")
+        self.is_read = not any(re.match(r"(\./)?(src|specs)/\S+?:\d+:\d+: error: (?!`)", it) for it in lines)
+        self.is_judged = self.is_judged and self.is_read
+        self.is_refused = status != 0
+        self.functions = {}
+        for line in lines:
+            told = re.match(r"fn " + re.escape(crate) + r"::(\S+?): (.*)", line)
+            if told and told[2] != "proved":
+                self.functions[told[1]] = told[2]
+
+    def refusal(self, function):
+        """Why this function's own contract refuses its body, if it does."""
+        told = self.functions.get(function)
+        if told is None:
+            return None
+        goals = re.search(r"did not prove (`[^`]*`)", told)
+        if goals:
+            return f"open goal {goals[1]}"
+        if told.startswith("not proved") or "expected answers" in told:
+            # The folder of a function that has others inside begins with `+`.
+            *modules, name = function.split("::")
+            folder = "/".join([*map(re.escape, modules), r"\+?" + re.escape(name)])
+            at = re.compile(r"(\./)?proofs/" + folder + r"/\S+?:\d+:\d+: error: (.*)")
+            for found in filter(None, map(at.match, self.lines)):
+                if not NAMES.search(found[2]):
+                    return found[2][:100]
+        return None
+
+    def refusal_of_law(self, function):
+        """Why this law does not follow from definitions that were turned: the first of its lemmas that fails."""
+        told = self.functions.get(function, "")
+        goals = re.search(r"did not prove (`[^`]*`)", told)
+        if goals or not told.startswith("not proved"):
+            return goals and f"open goal {goals[1]}"
+        found = (re.match(r"(\./)?(proofs/\S+?):\d+:\d+: error: (.*)", it) for it in self.lines)
+        return next((f"{it[2]}: {it[3]}"[:140] for it in found if it and not NAMES.search(it[3])), None)
+
+    def is_left_over(self, function):
+        """Whether the check didn't come to this function, since it calls others that are not proved."""
+        return "it calls" in self.functions.get(function, "")
+
+    def any_refusal(self):
+        """Why some function of the crate is refused, where one edit alone was put in."""
+        return next(filter(None, map(self.refusal, self.functions)), None)
+
+    def first_error(self):
+        return next((it for it in self.lines if ": error" in it), self.lines[0] if self.lines else "")[:160]
+
+
+def batches_of(edits, folder):
+    """The edits in groups that can be put in at once: each of a function of its own."""
+    batches = []
+    for edit in edits:
+        for group in batches:
+            texts = None if edit.function in group["functions"] else applied(edit, group["texts"], folder)
+            if texts is not None:
+                break
+        else:
+            texts, group = applied(edit, {}, folder), {"functions": set(), "edits": []}
+            batches.append(group)
+        group["texts"] = texts
+        group["functions"].add(edit.function)
+        group["edits"].append(edit)
+    return batches
+
+
+def try_alone(room, edit):
+    said = room.check(applied(edit, {}, room.clean))
+    if said.is_proved:
+        return False, "NOT REFUSED: the crate is still proved with this edit"
+    if not said.is_judged:
+        return False, f"BAD EDIT: the prover cannot read the edited text: {said.first_error()}"
+    why = said.any_refusal()
+    if why:
+        return True, f"refused alone: {why}"
+    why = "no contract refuses it, only a proof file that names what it took away"
+    return False, f"BAD EDIT: {why}: {said.first_error()}"
+
+
+def try_definition(room, edit):
+    said = room.check(applied(edit, {}, room.clean), edit.function)
+    why = said.refusal_of_law(edit.function) if said.is_read else None
+    if why:
+        return True, f"refused alone: {why}"
+    if said.is_refused:
+        return False, f"BAD EDIT: the law does not refuse it: {said.first_error()}"
+    return False, f"NOT REFUSED: {edit.function} is still proved with this edit"
+
+
+def try_batch(room, group):
+    """Pairs of an edit and what became of it, for one group: None where the check didn't come to its function."""
+    edits = group["edits"]
+    if len(edits) == 1:
+        return [(edits[0], try_alone(room, edits[0]))]
+    said = room.check(group["texts"])
+    if not said.is_judged:
+        halves = edits[: len(edits) // 2], edits[len(edits) // 2 :]
+        return [pair for half in halves for part in batches_of(half, room.clean) for pair in try_batch(room, part)]
+    found = []
+    for edit in edits:
+        why = said.refusal(edit.function)
+        if why:
+            found.append((edit, (True, f"refused: {why}")))
+        elif said.is_left_over(edit.function):
+            found.append((edit, None))
+        else:
+            found.append((edit, try_alone(room, edit)))
+    return found
+
+
+def try_together(room, edits, folder):
+    """Pairs of an edit and what became of it, for edits that each name their function."""
+    found = []
+    while edits:
+        tried = [pair for group in batches_of(edits, folder) for pair in try_batch(room, group)]
+        found += [pair for pair in tried if pair[1]]
+        left = [edit for edit, became in tried if not became]
+        if len(left) == len(edits):
+            return found + [(edit, try_alone(room, edit)) for edit in left]
+        edits = left
+    return found
+
+
+def try_edits(repository, crate, edits, jobs):
+    """Lines to print, and how many of a crate's edits were refused and how many were not."""
+    folder = f"{repository.root}/crates/{crate}"
+    faults = [(edit, fault_of(edit, folder)) for edit in edits]
+    lines = [f"{edit.label()}: BAD EDIT: {fault}" for edit, fault in faults if fault]
+    good, bad = [edit for edit, fault in faults if not fault], len(lines)
+    if not good:
+        return lines, 0, bad
+    with tempfile.TemporaryDirectory(prefix="wrong-", ignore_cleanup_errors=True) as at:
+        room = Room(repository, crate, at, jobs)
+        if not room.check({}).is_proved:
+            return [f"{crate}: NOT PROVED as it stands, so its wrong bodies say nothing"], 0, len(edits)
+        found = try_together(room, [it for it in good if it.function and not it.turns_definition()], folder)
+        found += [(it, try_alone(room, it)) for it in good if not it.function]
+        found += [(it, try_definition(room, it)) for it in good if it.turns_definition()]
+    lines += [f"{edit.label()}: {text}" for edit, (_, text) in found]
+    passed = sum(is_refused for _, (is_refused, _) in found)
+    return lines, passed, bad + len(found) - passed
