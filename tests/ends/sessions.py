@@ -21,7 +21,7 @@ EACH = range(1, 11)
 HELD = {  # by what a message is held: what another session does before, the message, and what lets it go
     "a lock": (lambda other: other.lock(0), "ROUT:CLOS (@2!7)", lambda other: other.release()),
     "a scan": (lambda other: other.query("ROUT:SCAN (@1!1);:TRIG:SOUR BUS;:INIT;:STAT:OPER:COND?"),
-               "*OPC?;:ROUT:CLOS (@2!7)", lambda other: other.query("*RST;*IDN?")),
+               "*OPC?;*ESE 7;:ROUT:CLOS (@2!7)", lambda other: other.query("*RST;*IDN?")),
 }
 
 
@@ -58,7 +58,15 @@ def second_alone(client):
     client.commands.close()
 
 
-ENDS = [first_before_second, second_before_first, both_at_once, by_a_reset, second_alone]
+def first_alone(client):
+    """The instrument ends the second one."""
+    client.commands.close()
+    client.events.settimeout(PATIENCE)
+    check_end(client.events)
+    client.events.close()
+
+
+ENDS = [first_before_second, second_before_first, both_at_once, by_a_reset, second_alone, first_alone]
 
 
 # ---- messages that had arrived are done
@@ -164,8 +172,8 @@ def held(name, end):
                 served.await_end_of_others(descriptors, threads)
                 let_go(other)
                 time.sleep(0.02)
-                wrong += other.query("ROUT:CLOS? (@2!7)") != "0"
-                other.write(OPENS)
+                wrong += other.query("ROUT:CLOS? (@2!7);*ESE?") != "0;0"
+                other.write(f"{OPENS};*ESE 0")
         tell(f"a message that {name} held was done", wrong, max(rounds // 10, 1))
     return check
 

@@ -1,8 +1,13 @@
-"""Clients that vanish while their command, or their request for a lock, waits."""
+"""Clients that vanish while their command, or their request for a lock, waits, and those that send more meanwhile."""
+import time
+
 from support.checking import same
-from support.hislip import send
+from support.hislip import receive, send
+from support.scpi import IDENTITY
 from support.server import SESSIONS
 from common import END_OF_SCAN, WAITING_SCAN
+
+LOOKS = 0.3  # seconds in which the server looks at a line more than once
 
 
 def check_vanished_beside_scan(served):
@@ -38,7 +43,40 @@ def check_vanished_beside_lock(served):
     holder.close()
 
 
+def check_more_beside_scan(served):
+    """A session that waits for the end of a scan, and whose client sends more, stays, and answers both then."""
+    scanner, client = served.join(), served.join()
+    scanner.write(WAITING_SCAN)
+    scanner.query("*STB?")
+    client.write("*OPC?")
+    time.sleep(LOOKS)
+    client.delivered = 1
+    client.write("*IDN?")
+    time.sleep(LOOKS)
+    same("the end of the scan", scanner.query(END_OF_SCAN), "1")
+    same("answers", [receive(client.commands).payload for _ in range(2)], [b"1\n", f"{IDENTITY}\n".encode()])
+    scanner.close()
+    client.close()
+
+
+def check_more_beside_lock(served):
+    """A session that waits for a lock, and whose client sends more behind that, stays, and answers both then."""
+    holder, client = served.join(), served.join()
+    same("lock", holder.lock(0), 1)
+    send(client.events, 4, 1, 2**32 - 1)
+    time.sleep(LOOKS)
+    send(client.events, 21)
+    time.sleep(LOOKS)
+    same("release", holder.release(), 1)
+    same("answers", [receive(client.events).kind for _ in range(2)], [5, 22])
+    same("identity", client.query("*IDN?"), IDENTITY)
+    holder.close()
+    client.close()
+
+
 CHECKS = [
     ("clients that vanish beside a scan", check_vanished_beside_scan),
     ("clients that vanish beside a lock", check_vanished_beside_lock),
+    ("a client that sends more beside a scan", check_more_beside_scan),
+    ("a client that sends more beside a lock", check_more_beside_lock),
 ]

@@ -8,10 +8,12 @@ import time
 from swm import SessionError
 
 from support.checking import PATIENCE, SOON, Failure, same, within
-from support.hislip import message, receive
+from support.hislip import BEGIN, check_end, message, receive
 from support.scpi import ALL_READINGS, IDENTITY, MOST_READINGS, SCAN
 from support.server import Served, Supervised, is_refused
 from support.sessions import Client
+
+PAUSE = 0.2  # seconds
 
 
 def another_address(program):
@@ -41,6 +43,10 @@ def the_log_of_connections(program):
         with served.connect() as wire:
             wire.sendall(message(6, 0, 0, b"*RST"))
             same("FatalError", receive(wire).kind, 2)
+        with served.connect() as wire:
+            wire.sendall(BEGIN + BEGIN)
+            same("InitializeResponse and FatalError", (receive(wire).kind, receive(wire).kind), (1, 2))
+            check_end(wire)
         clients = [served.join() for _ in range(16)]
         try:
             Client(served.port)
@@ -65,8 +71,10 @@ def check_remarks(told):
     same("the first session", [it for it in joining if it[0] in ("1", "2")], [("1", "1"), ("2", "1")])
     same("no header", why["3"], "broken header")
     same("a message before its time", why["4"], "FatalError 3")
+    same("a second Initialize", why["5"], "FatalError 3")
     same("one too many", sorted(why.values()).count("full"), 1)
-    same("sessions", sorted(int(session) for _, session in joining), sorted([1, 1, *range(1, 17), *range(1, 17)]))
+    sessions = sorted(int(session) for number, session in joining if number != "5")
+    same("sessions", sessions, sorted([1, 1, *range(1, 17), *range(1, 17)]))
 
 
 def an_answer_of_all_readings(program):
@@ -90,6 +98,17 @@ def a_pause_holds_no_session_up(program):
             client.write("ABOR")
 
 
+def a_pause_lasts_its_time(program):
+    """Two readings, each behind a pause, which ends once its time is over."""
+    with Served(program) as served, served.join() as client:
+        client.query(f"ROUT:SCAN (@1!1);:TRIG:COUN 2;DEL {PAUSE};*OPC?")
+        began = time.monotonic()
+        same("the end of the scan", client.query("INIT;*OPC?;:TRAC:POIN:ACT?"), "1;2")
+        seconds = time.monotonic() - began
+        if seconds < 2 * PAUSE:
+            raise Failure(f"two pauses of {PAUSE} s are over after {seconds:.3f} s")
+
+
 def accepts_that_fail_are_over_soon(program):
     """Where the server has no descriptor left, connections wait, and are served once there are some."""
     limited = lambda: resource.setrlimit(resource.RLIMIT_NOFILE, (16, 16))
@@ -104,5 +123,5 @@ def accepts_that_fail_are_over_soon(program):
 
 CHECKS = [
     another_address, an_address_of_version_six, the_log_of_connections, an_answer_of_all_readings,
-    a_pause_holds_no_session_up, accepts_that_fail_are_over_soon,
+    a_pause_holds_no_session_up, a_pause_lasts_its_time, accepts_that_fail_are_over_soon,
 ]

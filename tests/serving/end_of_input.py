@@ -3,67 +3,91 @@ import contextlib
 import subprocess
 import time
 
-from support.checking import PATIENCE, same, within
-from support.hislip import message
+from support.checking import PATIENCE, Failure, same, wait_until, within
+from support.hislip import BEGIN, CLOSED, LARGEST, message, program_message, receive
 from support.pseudo_terminal import CTRL_D, at_a_terminal
-from support.scpi import ALL_READINGS, MOST_READINGS, SCAN
+from support.scpi import ALL_READINGS, IDENTITY, MOST_READINGS, SCAN
 from support.server import END, Supervised, free_port
+
+SETTLED = 0.5  # seconds after which the threads of a server that has nothing to do wait for as long as it takes
+IDLE = 0.5  # seconds for which it is watched then
+MOST_WORK = 0.05  # seconds of the processor that it may take meanwhile
+PIPELINED = 1_000  # messages that wait behind one that is held
 
 
 def ends_while(play):
-    """A check that a server ends in time beside this, and says nothing of it."""
+    """A check that a server ends in time beside this, and says nothing of it. What stays is open until then."""
     def check(program):
         with Supervised(program) as served, contextlib.ExitStack() as clients:
-            play(served, lambda: clients.enter_context(served.join()))
+            play(served, clients.enter_context)
             served.end()
             same("what it says", served.remarks[1:], [])
     check.__name__ = f"the_end_of_the_input_{play.__name__}"
     return check
 
 
-def with_nobody(_served, _joins):
-    time.sleep(1)  # by then the server has looked at its input, whose end from the start it would name
+def with_nobody(served, _stays):
+    """By its end the server has looked at its input, whose end from the start it would name, and slept."""
+    time.sleep(SETTLED)
+    before = served.worked()
+    time.sleep(IDLE)
+    taken = served.worked() - before
+    if taken > MOST_WORK:
+        raise Failure(f"an idle server takes {taken:.2f} s of the processor in {IDLE} s")
 
 
-def behind_text_that_nobody_asked_for(served, _joins):
+def behind_text_that_nobody_asked_for(served, _stays):
     served.types("*IDN?\n" * 1_000)
     time.sleep(0.1)
     served.check_alive()
 
 
-def beside_sixteen_idle_clients(_served, joins):
+def beside_sixteen_idle_clients(served, stays):
+    """Each was answered, so that the server waits for its next message as long as it takes."""
     for _ in range(16):
-        joins()
+        same("identity", stays(served.join()).query("*IDN?"), IDENTITY)
+    time.sleep(SETTLED)
 
 
-def beside_a_held_query(_served, joins):
-    joins()
-    joins().write("ROUT:SCAN (@1!1);:TRIG:SOUR BUS;:INIT;*OPC?")
+def beside_a_held_query(served, stays):
+    stays(served.join())
+    stays(served.join()).write("ROUT:SCAN (@1!1);:TRIG:SOUR BUS;:INIT;*OPC?")
 
 
-def beside_a_lock_and_who_waits_for_it(_served, joins):
-    joins()
-    same("lock", joins().lock(0), 1)
-    joins().events.sendall(message(4, 1, 0xffff_ffff))
-    joins().write("*IDN?")
+def beside_a_lock_and_who_waits_for_it(served, stays):
+    stays(served.join())
+    same("lock", stays(served.join()).lock(0), 1)
+    waiting = stays(served.join())
+    waiting.events.sendall(message(4, 1, 0xffff_ffff))
+    waiting.write("*IDN?")
 
 
-def beside_a_pause_of_an_hour(_served, joins):
-    joins()
-    joins().write("TRIG:DEL 3600;:ROUT:SCAN (@1!1);:INIT")
+def beside_a_pause_of_an_hour(served, stays):
+    stays(served.join())
+    stays(served.join()).write("TRIG:DEL 3600;:ROUT:SCAN (@1!1);:INIT")
 
 
-def beside_an_answer_that_nobody_reads(_served, joins):
-    client = joins()
+def beside_an_answer_that_nobody_reads(served, stays):
+    client = stays(served.join())
     same("scan", client.query(SCAN.format(count=MOST_READINGS)), "1")
     client.write(";".join([":FETC?"] * 10))
     time.sleep(0.2)
 
 
-def beside_half_a_message(served, joins):
-    joins().commands.sendall(message(6, 0, 0xffff_ff00, b"ROUT:CLOS") + b"HS\x07")
-    served.connect().sendall(b"HS")
-    served.connect()
+def beside_half_a_message(served, stays):
+    stays(served.join()).commands.sendall(message(6, 0, 0xffff_ff00, b"ROUT:CLOS") + b"HS\x07")
+
+
+def beside_connections_without_a_session(served, stays):
+    """One is silent, one has sent a part of a header, and one waits for its second connection."""
+    threads = served.threads()
+    stays(served.connect())
+    stays(served.connect()).sendall(b"HS")
+    half = stays(served.connect())
+    half.sendall(BEGIN)
+    same("kind", receive(half).kind, 1)
+    wait_until("a thread for each", lambda: served.threads() >= threads + 3)
+    time.sleep(SETTLED)
 
 
 def at_its_terminal(program):
@@ -115,6 +139,23 @@ def the_message_that_the_end_meets_is_answered_whole(program):
     same("the answer", payloads(told), f"{ALL_READINGS}\n")
 
 
+def what_waits_behind_a_held_message_is_not_done(program):
+    """The server's end stops the first session before the second one's, with which its lock goes."""
+    with Supervised(program) as served, served.join() as client, served.join() as holder:
+        same("the lock's session", (client.number, holder.number, holder.lock(0)), (1, 2, 1))
+        client.commands.sendall(program_message("*OPC?"))
+        same("a release of no lock, behind what is held", client.release(), 3)
+        client.commands.sendall(program_message("*OPC?") * PIPELINED)
+        served.process.stdin.close()
+        told = bytearray()
+        with contextlib.suppress(*CLOSED):
+            while part := client.commands.recv(LARGEST):
+                told += part
+        same("status", served.process.wait(PATIENCE), 0)
+    if len(told) > len(message(7, payload=b"1\n")):
+        raise Failure(f"{len(told)} bytes answer what came behind a message that was held")
+
+
 def payloads(stream):
     text, at = b"", 0
     while at < len(stream):
@@ -137,6 +178,7 @@ def more_desks_than_a_few(program):
 CHECKS = [ends_while(play) for play in (
     with_nobody, behind_text_that_nobody_asked_for, beside_sixteen_idle_clients, beside_a_held_query,
     beside_a_lock_and_who_waits_for_it, beside_a_pause_of_an_hour, beside_an_answer_that_nobody_reads,
-    beside_half_a_message)]
+    beside_half_a_message, beside_connections_without_a_session)]
 CHECKS += [at_its_terminal, an_input_that_has_ended_from_the_start, a_pipe_whose_writer_is_killed,
-           the_message_that_the_end_meets_is_answered_whole, more_desks_than_a_few]
+           the_message_that_the_end_meets_is_answered_whole, what_waits_behind_a_held_message_is_not_done,
+           more_desks_than_a_few]

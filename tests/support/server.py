@@ -78,6 +78,12 @@ class Served:
         """Memory in kB."""
         return self.entry("VmRSS")
 
+    def worked(self):
+        """For how many seconds its threads have had a processor."""
+        self.check_alive()
+        words = pathlib.Path(f"/proc/{self.process.pid}/stat").read_text().rpartition(")")[2].split()
+        return (int(words[11]) + int(words[12])) / os.sysconf("SC_CLK_TCK")
+
     def descriptors(self):
         """How many are open."""
         self.check_alive()
