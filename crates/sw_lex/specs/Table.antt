@@ -100,6 +100,7 @@ table =
     ∷ (codes "SYSTem:HELP:HEADers?", keys.Query queries.Headers)
     ∷ (codes "SYSTem:VERSion?", keys.Query queries.Version)
     ∷ (codes "DIAGnostic:SCAN:BOUNd?", keys.Query queries.Bound)
+    ∷ (codes "DIAGnostic:SCAN:CHECk?", keys.Query queries.ScanCheck)
     ∷ (codes "DIAGnostic:CLOSe:CHECk?", keys.Channels lists.CloseCheck)
     ∷ (codes "FETCh?", keys.Plain plain.Fetch)
     ∷ (codes "READ?", keys.Plain plain.Read)

@@ -106,6 +106,8 @@ pub enum PlainQuery {
     ActualPoints,
     /// `DIAGnostic:SCAN:BOUNd?`
     Bound,
+    /// `DIAGnostic:SCAN:CHECk?`
+    ScanCheck,
 }
 
 /// The queries of a trigger layer.

@@ -5,7 +5,7 @@ ghost use Rattle.sw_lex.specs.Help.{headers_text};
 
 /// The lines of the table, in its order. `specs/Help.antt` makes them of `specs/Table.antt`, so that a row that is added
 /// there has to be added here, and the length with it.
-static HEADERS: &[u8] = b"#41195\
+static HEADERS: &[u8] = b"#41226\
     *IDN?/qonly/\n\
     *RST/nquery/\n\
     *OPC\n\
@@ -62,6 +62,7 @@ static HEADERS: &[u8] = b"#41195\
     :SYSTem:HELP:HEADers?/qonly/\n\
     :SYSTem:VERSion?/qonly/\n\
     :DIAGnostic:SCAN:BOUNd?/qonly/\n\
+    :DIAGnostic:SCAN:CHECk?/qonly/\n\
     :DIAGnostic:CLOSe:CHECk?/qonly/\n\
     :FETCh?/qonly/\n\
     :READ?/qonly/";

@@ -335,6 +335,10 @@ static PATHS_D: Part = Part {
         rows: &[
             Query(&[Must(SCAN), Must(BOUND)], Key::Query(PlainQuery::Bound)),
             Query(
+                &[Must(SCAN), Must(CHECK)],
+                Key::Query(PlainQuery::ScanCheck),
+            ),
+            Query(
                 &[Must(CLOSE), Must(CHECK)],
                 Key::Channels(Channels::CloseCheck),
             ),
