@@ -30,5 +30,7 @@ mod ScanRunsLemmas
 mod ScanNumberLemmas
 mod ReadsLemmas
 mod ClosingToldLemmas
+mod ScanCheckingLemmas
+mod ScanToldLemmas
 mod EveryRunLemmas
 mod GoingOnLemmas

@@ -37,6 +37,7 @@ use Rattle.sw_core.specs.Answers.{identity_text, version, oldest_entry, all_entr
 use Rattle.sw_core.specs.Panel.{Panel, with_cards}
 use Rattle.sw_core.specs.Registers.{card_fault_cleared}
 use Rattle.sw_core.specs.Checking.{check_text}
+use Rattle.sw_core.specs.ScanChecking.{scan_check_text}
 
 -- what a command does when it is carried out
 pub data Effect : Type 1 where
@@ -120,6 +121,7 @@ query_text available PlainQuery.Version p = version
 query_text available PlainQuery.Points p = decimal p.settings.points
 query_text available PlainQuery.ActualPoints p = decimal (length p.cage.readings)
 query_text available PlainQuery.Bound p = decimal (bound_of p.settings)
+query_text available PlainQuery.ScanCheck p = scan_check_text p
 
 -- the readings of the scan with this number, where it made so many, and no scan began since
 abbrev pub readings_of_scan : ℕ → ℕ → Panel → List Reading

@@ -7,6 +7,7 @@ pub mod Panel
 pub mod Registers
 pub mod Event
 pub mod Checking
+pub mod ScanChecking
 pub mod Action
 pub mod Step
 pub mod Good
@@ -15,4 +16,5 @@ pub mod Run
 pub mod Ends
 pub mod Reads
 pub mod ClosingTold
+pub mod ScanTold
 pub mod Opening

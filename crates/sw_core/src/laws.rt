@@ -6,6 +6,7 @@ ghost use Rattle.sw_core.specs.Ends.{EveryScanEnds};
 ghost use Rattle.sw_core.specs.Opening.{RunsGoOn};
 ghost use Rattle.sw_core.specs.Reads.{ReadTellsItsScan};
 ghost use Rattle.sw_core.specs.ClosingTold.{ClosingIsTold};
+ghost use Rattle.sw_core.specs.ScanTold.{ScanIsTold};
 
 /// A mainframe begins good and stays good, whatever went before: no absent channel is closed and no two closed channels
 /// clash, a scan that runs goes by the settings and has done a prefix of its agenda, which is sound, the queue holds 32
@@ -62,4 +63,10 @@ pub fn read_tells_its_scan()
 /// refused by nothing: then it closes them, unless a card fails.
 pub fn closing_is_told()
     ensures { ClosingIsTold }
+{}
+
+/// Of every good mainframe `DIAGnostic:SCAN:CHECk?` begins with `"ok` exactly where INITiate is taken, unless memory
+/// runs out, and it names a refusal exactly where that is the first one that INITiate finds.
+pub fn scan_is_told()
+    ensures { ScanIsTold }
 {}

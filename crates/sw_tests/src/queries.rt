@@ -11,7 +11,7 @@ use sw_core::{Core, SessionAnswer, SessionAsk, Sid, Work};
 use sw_lex::Command;
 
 /// Queries of relays and settings.
-const SETTINGS: [&[u8]; 21] = [
+const SETTINGS: [&[u8]; 22] = [
     b"ROUT:CLOS? (@1!1)",
     b"ROUT:OPEN? (@1!1,2!1)",
     b"ROUT:CLOS:STAT?",
@@ -30,6 +30,7 @@ const SETTINGS: [&[u8]; 21] = [
     b"TRAC:POIN?",
     b"TRAC:POIN:ACT?",
     b"DIAG:SCAN:BOUN?",
+    b"DIAG:SCAN:CHEC?",
     b"INIT:CONT?",
     b"FETC?",
     b"*OPC?",
