@@ -12,17 +12,18 @@ LIBRARY = r"""
 #include <stdlib.h>
 #include <unistd.h>
 static long left;
-static int alone, told;
+static int alone, told, teller;
 __attribute__((constructor)) static void begin(void) {
-  const char *first = getenv("GROWTH"), *one = getenv("GROWTH_ALONE");
+  const char *first = getenv("GROWTH"), *one = getenv("GROWTH_ALONE"), *file = getenv("GROWTH_TELLS");
   left = first ? atol(first) : 0;
   alone = one != 0;
+  teller = file ? atoi(file) : 0;
 }
 static int is_refused(void) {
   if (left == 0) return 0;
   if (left > 1) { left--; return 0; }
   if (alone) left = 0;
-  if (!told) { told = 1; if (write(9, "!", 1) < 0) _exit(99); }
+  if (!told) { told = 1; if (write(teller, "!", 1) < 0) _exit(99); }
   return 1;
 }
 void *malloc(size_t size) {
@@ -71,14 +72,11 @@ class Program:
     def refusing(self, words, typed, number, alone):
         """What the program does where this growth is refused, and whether it was."""
         reader, writer = os.pipe()
-        environment = {"LD_PRELOAD": self.library, "GROWTH": str(number), **({"GROWTH_ALONE": "1"} if alone else {})}
-
-        def keep_writer():
-            os.dup2(writer, 9)
-
+        environment = {"LD_PRELOAD": self.library, "GROWTH": str(number), "GROWTH_TELLS": str(writer),
+                       **({"GROWTH_ALONE": "1"} if alone else {})}
         try:
             done = subprocess.run([self.path, *words], input=typed, capture_output=True, timeout=PATIENCE,
-                                  env=environment, preexec_fn=keep_writer, close_fds=False)
+                                  env=environment, pass_fds=[writer])
             os.close(writer)
             writer = -1
             return Outcome(done), os.read(reader, 1) != b""

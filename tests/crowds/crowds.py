@@ -1,5 +1,6 @@
 """Crowds of connections: house after house that say nothing, first connections alone, many at once, and one after
-another. They leave no thread, no descriptor and no session behind."""
+another. They leave no thread, no descriptor and no session behind.
+"""
 import time
 
 from swm import HEADER
@@ -18,7 +19,7 @@ TURNED_AWAY = 200
 OTHERS = 1  # sessions that others have all the while
 
 
-def check_houses(served):
+def houses_full_of_connections(served):
     """House after house of connections that say nothing, and many more at the door, leave nothing behind."""
     descriptors, threads = served.descriptors(), served.threads()
     resident = []
@@ -35,7 +36,7 @@ def check_houses(served):
     served.check_sessions(OTHERS)
 
 
-def check_half_sessions(served):
+def sessions_that_have_one_connection(served):
     """First connections alone have all numbers that are free, and after a minute none."""
     descriptors, threads = served.descriptors(), served.threads()
     halves = [half_a_session(served)[0] for _ in range(SESSIONS - OTHERS)]
@@ -60,7 +61,7 @@ def join_at_once(served):
     return joined
 
 
-def check_connections_at_once(served):
+def connections_at_once(served):
     """No more sessions are given than there are, and all of them once those before have left; as many connections
     more say nothing, so that there is room for all."""
     silent = [served.connect() for _ in range(MOST - AT_ONCE)]
@@ -76,7 +77,7 @@ def check_connections_at_once(served):
     served.check_sessions(OTHERS)
 
 
-def check_connections_in_turn(served):
+def connections_one_after_another(served):
     descriptors, threads = served.descriptors(), served.threads()
     for turn in range(ONE_AFTER_ANOTHER):
         if turn % 2:
@@ -90,8 +91,5 @@ def check_connections_in_turn(served):
 
 
 CHECKS = [
-    ("houses full of connections", check_houses),
-    ("sessions that have one connection", check_half_sessions),
-    ("connections at once", check_connections_at_once),
-    ("connections one after another", check_connections_in_turn),
+    houses_full_of_connections, sessions_that_have_one_connection, connections_at_once, connections_one_after_another,
 ]
