@@ -8,7 +8,7 @@ import socket
 import subprocess
 import tempfile
 
-from support import EXAMPLES, ROOT
+from support import EXAMPLES
 from support.checking import PATIENCE, SOON, same, wait_until, within
 from support.own_cards import own_cards
 from support.scpi import IDENTITY
@@ -90,9 +90,9 @@ def each_signal_opens_the_relays(program):
             same("what the boards were told", lines[3:5], ["3 close 1", "1 close 8"])
 
 
-def the_unit_of_the_document(program):
+def the_unit(program):
     """Its command is begun, reloaded and ended as systemd does, which sends SIGTERM to service and server alike."""
-    unit = re.search(r"^```ini\n(.*?)^```$", (ROOT / "docs/HISLIP.md").read_text(), re.M | re.S)[1]
+    unit = (EXAMPLES / "mainframe.service").read_text()
     start = re.search(r"^ExecStart=(.*)$", unit, re.M)[1].split()
     same("kind", re.findall(r"^(?:Type|KillMode)=(.*)$", unit, re.M), ["notify"])
     same("reload", re.search(r"^ExecReload=(.*)$", unit, re.M)[1], "/bin/kill -USR1 $MAINPID")
@@ -161,7 +161,7 @@ def a_service_passes_lines_on(_):
 
 
 CHECKS = [
-    each_signal_ends_the_service, each_signal_opens_the_relays, the_unit_of_the_document,
+    each_signal_ends_the_service, each_signal_opens_the_relays, the_unit,
     a_service_whose_port_is_taken, a_service_whose_server_is_killed, a_service_that_is_killed,
     a_service_without_a_program, a_service_passes_lines_on,
 ]
