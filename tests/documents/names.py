@@ -7,6 +7,7 @@ from support.checking import same
 
 NAME = r"[A-Za-z][\w']*"
 DEFINED = re.compile(rf"(?m)^\s*(?:(?:abbrev|pub|record|data|private|opaque) )*({NAME})\b")
+DECLARED = re.compile(rf"(?m)^use Rattle[\w.]*\.declared\.[\w.]*\{{({NAME})\}}")  # a type of the sources
 FILE = re.compile(r"(?:[\w.-]+/)*[\w-]+\.(?:rt|py|md|antt|txt|service|edits)")
 ADDED = {"own_cards/src/banks.rt"}  # files that a walk of docs/ARCHITECTURE.md adds
 
@@ -22,14 +23,17 @@ def names_in(text):
 
 
 def each_definition_is_in_its_file(_program):
-    """A row of docs/DEFINITIONS.md has names in its first cell, and the files of one crate in its third."""
+    """A row of docs/DEFINITIONS.md has names in its first cell, and their files in its third, each behind its crate or
+    behind another file of it. A type of the sources is in a file that takes it from there."""
     missing = []
     for row in re.findall(r"(?m)^\| (`.*) \|$", text_of(ROOT / "docs/DEFINITIONS.md")):
         names, _, places, _ = row.split(" | ")
-        first, *more = names_in(places)
-        crate, _, file = first.partition("/")
-        texts = [(ROOT / "crates" / crate / "specs" / f"{it}.antt").read_text() for it in (file, *more)]
-        defined = {it for text in texts for it in DEFINED.findall(text)}
+        crate, defined = "", set()
+        for place in names_in(places):
+            crate, file = place.split("/") if "/" in place else (crate, place)
+            path = ROOT / "crates" / crate / "specs" / f"{file}.antt"
+            text = path.read_text() if path.is_file() else ""
+            defined |= {*DEFINED.findall(text), *DECLARED.findall(text)}
         missing += [f"{it} in {places}" for it in names_in(names) if it not in defined]
     same("definitions that are elsewhere", missing, [])
 
