@@ -10,7 +10,8 @@ PATIENCE = 60  # seconds after which something is stuck
 SOON = 3  # seconds within which what is done at once is done, on a slow machine too
 SLOW = 5  # seconds from which on a check's time is printed
 MOST_GROWTH = 1_024  # kB that memory may grow by in the end, and a tenth
-SHOWN = 60  # bytes of those that differ
+LONG = 1_000  # characters of two texts that are not shown whole
+SHOWN = 60  # bytes, or characters of long texts, of those that differ
 
 
 class Failure(Exception):
@@ -21,12 +22,13 @@ class Failure(Exception):
 
 
 def same(what, got, wanted):
-    """Fails where something differs; of bytes it shows those from the first that differs on."""
+    """Fails where something differs; of bytes and of long texts it shows those from the first that differs on."""
     if got == wanted:
         return
-    if isinstance(got, bytes) and isinstance(wanted, bytes):
+    is_bytes = isinstance(got, bytes) and isinstance(wanted, bytes)
+    if is_bytes or isinstance(got, str) and isinstance(wanted, str) and len(got) + len(wanted) > LONG:
         at = next((at for at, (a, b) in enumerate(zip(got, wanted)) if a != b), min(len(got), len(wanted)))
-        raise Failure(f"{what} from byte {at}: {got[at:at + SHOWN]!r} in place of {wanted[at:at + SHOWN]!r}")
+        raise Failure(f"{what} from {at} on: {got[at:at + SHOWN]!r} in place of {wanted[at:at + SHOWN]!r}")
     raise Failure(f"{what}: {got!r} in place of {wanted!r}")
 
 
