@@ -4,7 +4,7 @@ import socket
 import struct
 
 from support.checking import same
-from support.hislip import fatal, receive_bytes
+from support.hislip import check_end, fatal, receive_bytes
 from support.scpi import IDENTITY
 
 AT_ONCE = 8
@@ -12,11 +12,12 @@ SIXTEEN_BITS = 1 << 16  # connections
 
 
 def come_and_go(served, count):
-    """So many connections, one after another, each of which is told that it sent no header."""
+    """So many connections, one after another, each of which is told that it sent no header, and ended."""
     for _ in range(count):
         with served.connect() as wire:
             wire.sendall(bytes(16))
             same("FatalError", receive_bytes(wire, 16), fatal(1))
+            check_end(wire)
             wire.setsockopt(socket.SOL_SOCKET, socket.SO_LINGER, struct.pack("ii", 1, 0))
 
 
