@@ -148,10 +148,17 @@ none_free layout closed (p ∷ ps) present e =
     (none_can layout closed p there.0 n.0, none_free layout closed ps there.1 n.1)
 
 pub free_none : (layout : Layout) (closed : List Channel) (ps : List Position) → AllByRecursion (CanCloseEach layout (is_among closed)) ps
-    → first_blocked layout closed ps ≡ None
+    → None ≡ first_blocked layout closed ps
 free_none layout closed [] free = refl
 free_none layout closed (p ∷ ps) free =
-    ap (λ (o : Option Blocked). or_next o (first_blocked layout closed ps)) (can_none layout closed p free.0) ∙ free_none layout closed ps free.1
+    free_none layout closed ps free.1
+    ∙ sym (ap (λ (o : Option Blocked). or_next o (first_blocked layout closed ps)) (can_none layout closed p free.0))
+
+any_here : {X : Type 0} (P : X → Type 0) (x : X) (xs : List X) → P x → Any P (x ∷ xs)
+any_here P x xs w = (0, x, omega arith, refl, w)
+
+any_later : {X : Type 0} (P : X → Type 0) (x : X) (xs : List X) → Any P xs → Any P (x ∷ xs)
+any_later P x xs (k, y, l, e, w) = (suc k, y, omega arith, e, w)
 
 pub some_any : (layout : Layout) (closed : List Channel) (ps : List Position) (b : Blocked) → list_all (list_all (is_present layout)) ps ≡ true
     → first_blocked layout closed ps ≡ Some b → Any (λ (p : Position). (r : Refusal) × IsBarredAt layout (is_among closed) p r) ps
@@ -163,8 +170,10 @@ some_any layout closed (p ∷ ps) b present e = by_first (first_in layout closed
 
     by_first : (o : Option Blocked) → first_in layout closed p ≡ o → or_next o (first_blocked layout closed ps) ≡ Some b
         → Any (λ (q : Position). (r : Refusal) × IsBarredAt layout (is_among closed) q r) (p ∷ ps)
-    by_first (Some a) is e = (0, p, omega arith, refl, (GroupClash, some_barred layout closed p a there.0 is))
-    by_first None is e = let r = some_any layout closed ps b there.1 e in (suc r.0, r.1, omega arith, r.3, r.4)
+    by_first (Some a) is e =
+        any_here (λ (q : Position). (r : Refusal) × IsBarredAt layout (is_among closed) q r) p ps (GroupClash, some_barred layout closed p a there.0 is)
+    by_first None is e =
+        any_later (λ (q : Position). (r : Refusal) × IsBarredAt layout (is_among closed) q r) p ps (some_any layout closed ps b there.1 e)
 
 -- the first of the positions that can't be closed is the one whose channel is told
 own_first : (o rest : Option Blocked) → (o ≡ None → ⊥) → o ≡ or_next o rest

@@ -103,9 +103,9 @@ module _ (s : Snapshot) (range : IsInRange s.settings) where
   by_counts : 0 < length s.settings.list → list_all (list_all (is_present s.layout)) (used_of s.settings) ≡ true
       → has_meter s.layout s.settings.meter ≡ true → AllByRecursion (CanCloseEach s.layout (is_among s.closed)) (used_of s.settings)
       → (b : Bool) → nat_lt s.settings.points (readings_of s.settings) ≡ b
-      → Judged s (if b then refused_text TooManyReadings (crowded_words s.settings) else accepted_text s.settings)
+      → Judged s (if b then refused_text TooManyReadings (crowded_words (readings_of s.settings) s.settings.points) else accepted_text s.settings)
   by_counts listed present measured free true e =
-      refuses TooManyReadings (crowded_words s.settings) (first_too_many s listed present measured free (grind (arith, nat_tests, e))) refl
+      refuses TooManyReadings (crowded_words (readings_of s.settings) s.settings.points) (first_too_many s listed present measured free (grind (arith, nat_tests, e))) refl
   by_counts listed present measured free false e =
       accepts
       (record {
@@ -141,7 +141,7 @@ module _ (s : Snapshot) (range : IsInRange s.settings) where
 
   empty_list : (l : List Position) → (length l == 0) ≡ true → l ≡ []
   empty_list [] e = refl
-  empty_list (x ∷ l) e = absurd (cc (e))
+  empty_list (x ∷ l) e = absurd (let n : length (x ∷ l) ≡ 0 = grind (arith, nat_tests, e) in omega (arith, n))
 
   by_list : (b : Bool) → (length s.settings.list == 0) ≡ b
       → Judged s (if b

@@ -3,8 +3,8 @@
 ghost use Rattle.std.specs.Prelude.{◌≡◌, Bool, None, IfOk, string_bytes};
 ghost use Rattle.sw_channel.specs.Positions.{is_among};
 ghost use Rattle.sw_core.specs.ScanChecking.{first_missing, blocked_by, first_in, first_blocked};
-ghost use Rattle.sw_core.specs.ScanChecking.{refused_text, missing_words, joined_words, counted_text};
-ghost use Rattle.sw_core.specs.ScanChecking.{ready_text, scan_check_text};
+ghost use Rattle.sw_core.specs.ScanChecking.{refused_text, missing_words, crowded_words, joined_words};
+ghost use Rattle.sw_core.specs.ScanChecking.{counted_text, ready_text, scan_check_text};
 ghost use Rattle.sw_core.specs.Step.{StepText};
 
 use crate::answer_text::AnswerText;
@@ -93,7 +93,7 @@ fn counted_text(alloc: Global, settings: &Settings) -> Result<Sequence<u8>, Scpi
     let readings = settings.readings();
     let points = settings.points();
     if u64::from(points) < readings {
-        let words = format!(in alloc; "{readings} readings, room for {points} (TRACe:POINts)")?;
+        let words = crowded_words(alloc, readings, points)?;
         return refused_text(alloc, Refusal::TooManyReadings, words.as_str());
     }
     let bound = settings.bound();
@@ -184,6 +184,12 @@ fn missing_words(alloc: Global, chan: Chan) -> Result<String, AllocError>
     let slot = chan.slot();
     let ch = chan.ch();
     format!(in alloc; "no such channel: {slot}!{ch}")
+}
+
+fn crowded_words(alloc: Global, readings: u64, points: u32) -> Result<String, AllocError>
+    ensures { IfOk result (λ words. string_bytes words ≡ crowded_words readings points) }
+{
+    format!(in alloc; "{readings} readings, room for {points} (TRACe:POINts)")
 }
 
 fn joined_words(
