@@ -104,17 +104,19 @@ can_none layout before (c ∷ p) can =
 pub some_barred : (layout : Layout) (before : List Channel) (p : Position) (b : Blocked) → list_all (is_present layout) p ≡ true
     → first_in layout before p ≡ Some b → IsBarredAt layout (is_among before) p GroupClash
 some_barred layout before [] b present e = absurd (cc (e))
-some_barred layout before (c ∷ p) b present e = by_first (blocked_by layout before c) refl e
+some_barred layout before (c ∷ p) b present e =
+    by_first (λ rest k. some_barred layout (before ++ c ∷ []) p b rest k) (blocked_by layout before c) refl e
   where
     there : (is_present layout c ≡ true) × (list_all (is_present layout) p ≡ true)
     there = and_parts (is_present layout c) (list_all (is_present layout) p) present
 
-    by_first : (o : Option Blocked) → blocked_by layout before c ≡ o → or_next o (first_in layout (before ++ c ∷ []) p) ≡ Some b
-        → IsBarredAt layout (is_among before) (c ∷ p) GroupClash
-    by_first (Some a) is e = inl (inr (there.0, blocked_is layout before c a is, refl))
-    by_first None is e = inr (
+    by_first : (list_all (is_present layout) p ≡ true → first_in layout (before ++ c ∷ []) p ≡ Some b
+        → IsBarredAt layout (is_among (before ++ c ∷ [])) p GroupClash) → (o : Option Blocked) → blocked_by layout before c ≡ o
+        → or_next o (first_in layout (before ++ c ∷ []) p) ≡ Some b → IsBarredAt layout (is_among before) (c ∷ p) GroupClash
+    by_first more (Some a) is e = inl (inr (there.0, blocked_is layout before c a is, refl))
+    by_first more None is e = inr (
       free_by layout before c there.0 is,
-      subst (λ (s : Channels). IsBarredAt layout s p GroupClash) (sym (among_pushed before c)) (some_barred layout (before ++ c ∷ []) p b there.1 e),
+      subst (λ (s : Channels). IsBarredAt layout s p GroupClash) (sym (among_pushed before c)) (more there.1 e),
     )
 
 -- ---- positions
@@ -163,17 +165,18 @@ any_later P x xs (k, y, l, e, w) = (suc k, y, omega arith, e, w)
 pub some_any : (layout : Layout) (closed : List Channel) (ps : List Position) (b : Blocked) → list_all (list_all (is_present layout)) ps ≡ true
     → first_blocked layout closed ps ≡ Some b → Any (λ (p : Position). (r : Refusal) × IsBarredAt layout (is_among closed) p r) ps
 some_any layout closed [] b present e = absurd (cc (e))
-some_any layout closed (p ∷ ps) b present e = by_first (first_in layout closed p) refl e
+some_any layout closed (p ∷ ps) b present e =
+    by_first (λ rest k. some_any layout closed ps b rest k) (first_in layout closed p) refl e
   where
     there : (list_all (is_present layout) p ≡ true) × (list_all (list_all (is_present layout)) ps ≡ true)
     there = and_parts (list_all (is_present layout) p) (list_all (list_all (is_present layout)) ps) present
 
-    by_first : (o : Option Blocked) → first_in layout closed p ≡ o → or_next o (first_blocked layout closed ps) ≡ Some b
-        → Any (λ (q : Position). (r : Refusal) × IsBarredAt layout (is_among closed) q r) (p ∷ ps)
-    by_first (Some a) is e =
+    by_first : (list_all (list_all (is_present layout)) ps ≡ true → first_blocked layout closed ps ≡ Some b
+        → Any (λ (q : Position). (r : Refusal) × IsBarredAt layout (is_among closed) q r) ps) → (o : Option Blocked) → first_in layout closed p ≡ o
+        → or_next o (first_blocked layout closed ps) ≡ Some b → Any (λ (q : Position). (r : Refusal) × IsBarredAt layout (is_among closed) q r) (p ∷ ps)
+    by_first more (Some a) is e =
         any_here (λ (q : Position). (r : Refusal) × IsBarredAt layout (is_among closed) q r) p ps (GroupClash, some_barred layout closed p a there.0 is)
-    by_first None is e =
-        any_later (λ (q : Position). (r : Refusal) × IsBarredAt layout (is_among closed) q r) p ps (some_any layout closed ps b there.1 e)
+    by_first more None is e = any_later (λ (q : Position). (r : Refusal) × IsBarredAt layout (is_among closed) q r) p ps (more there.1 e)
 
 -- the first of the positions that can't be closed is the one whose channel is told
 own_first : (o rest : Option Blocked) → (o ≡ None → ⊥) → o ≡ or_next o rest

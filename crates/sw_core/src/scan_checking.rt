@@ -3,7 +3,8 @@
 ghost use Rattle.std.specs.Prelude.{◌≡◌, Bool, None, IfOk, string_bytes};
 ghost use Rattle.sw_channel.specs.Positions.{is_among};
 ghost use Rattle.sw_core.specs.ScanChecking.{first_missing, blocked_by, first_in, first_blocked};
-ghost use Rattle.sw_core.specs.ScanChecking.{refused_text, missing_words, crowded_words, joined_words};
+ghost use Rattle.sw_core.specs.ScanChecking.{refused_text, missing_words, joined_words};
+ghost use Rattle.sw_core.specs.ScanChecking.{unmeasured_words, crowded_words};
 ghost use Rattle.sw_core.specs.ScanChecking.{counted_text, ready_text, scan_check_text};
 ghost use Rattle.sw_core.specs.Step.{StepText};
 
@@ -76,7 +77,7 @@ fn ready_text(
     }
     let slot = settings.meter();
     if !layout.has_meter(slot) {
-        let words = format!(in alloc; "no meter in slot {slot} (ROUTe:SCAN:METer)")?;
+        let words = unmeasured_words(alloc, slot)?;
         return refused_text(alloc, Refusal::NoMeter, words.as_str());
     }
     if let Some((chan, other)) = blocked_channel(layout, closed, settings.used())? {
@@ -184,6 +185,12 @@ fn missing_words(alloc: Global, chan: Chan) -> Result<String, AllocError>
     let slot = chan.slot();
     let ch = chan.ch();
     format!(in alloc; "no such channel: {slot}!{ch}")
+}
+
+fn unmeasured_words(alloc: Global, slot: u8) -> Result<String, AllocError>
+    ensures { IfOk result (λ words. string_bytes words ≡ unmeasured_words slot) }
+{
+    format!(in alloc; "no meter in slot {slot} (ROUTe:SCAN:METer)")
 }
 
 fn crowded_words(alloc: Global, readings: u64, points: u32) -> Result<String, AllocError>
