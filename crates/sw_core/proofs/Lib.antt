@@ -32,5 +32,6 @@ mod ReadsLemmas
 mod ClosingToldLemmas
 mod ScanCheckingLemmas
 mod ScanToldLemmas
+mod SlotsToldLemmas
 mod EveryRunLemmas
 mod GoingOnLemmas

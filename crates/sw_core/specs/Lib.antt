@@ -8,6 +8,7 @@ pub mod Registers
 pub mod Event
 pub mod Checking
 pub mod ScanChecking
+pub mod SlotTexts
 pub mod Action
 pub mod Step
 pub mod Good
@@ -17,4 +18,5 @@ pub mod Ends
 pub mod Reads
 pub mod ClosingTold
 pub mod ScanTold
+pub mod SlotsTold
 pub mod Opening

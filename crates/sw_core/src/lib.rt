@@ -25,6 +25,7 @@ mod relays;
 mod scan_checking;
 mod scans;
 mod sessions;
+mod slots;
 mod state;
 mod text;
 
@@ -32,7 +33,7 @@ pub use answer_text::{AnswerForm, AnswerText};
 pub use ask::{Answer, Ask, SessionAnswer, SessionAsk, Sid, Work};
 pub use laws::{
     closing_is_told, every_run_is_good, every_scan_ends, mainframe_stays_good, read_tells_its_scan,
-    relays_obey, runs_go_on, scan_is_told, step_is_determined,
+    relays_obey, runs_go_on, scan_is_told, slots_are_told, step_is_determined,
 };
 pub use readings_text::ReadingsText;
 pub use state::Core;

@@ -37,7 +37,7 @@ const SETTINGS: [&[u8]; 22] = [
 ];
 
 /// Queries of status, errors and the instrument.
-const STATUS: [&[u8]; 22] = [
+const STATUS: [&[u8]; 27] = [
     b"*IDN?",
     b"*TST?",
     b"*STB?",
@@ -60,6 +60,11 @@ const STATUS: [&[u8]; 22] = [
     b"SYST:HELP:HEAD?",
     b"SYST:VERS?",
     b"SYST:ERR:NEXT?",
+    b"SYST:CTYP? 1",
+    b"SYST:CTYP? 4",
+    b"SYST:CTYP:GRO? 1",
+    b"SYST:CTYP:STAT? 1",
+    b"SYST:CTYP:STAT? 16",
 ];
 
 /// Whether the answer is a text.
