@@ -12,6 +12,7 @@ use Rattle.sw_card.specs.declared.board.CardFault.{CardFault}
 use Rattle.sw_lex.specs.declared.command.Command.{Command}
 use Rattle.sw_lex.specs.declared.command.Plain.{Plain}
 use Rattle.sw_lex.specs.declared.command.Channels.{Channels}
+use Rattle.sw_lex.specs.declared.command.SlotQuery.{SlotQuery}
 use Rattle.sw_trigger.specs.Settings.{SettingsSeen}
 use Rattle.sw_status.specs.StatusModel.{StatusSeen}
 use Rattle.sw_verify.specs.declared.snapshot.Snapshot.{Snapshot}
@@ -121,6 +122,9 @@ keeps_command p available (Command.Plain Plain.Reset) n = absurd (cc (n))
 keeps_command p available (Command.Continuous true) n = (refl, refl)
 keeps_command p available (Command.Continuous false) n = (refl, refl)
 keeps_command p available (Command.Channels Channels.Close chans) n = (refl, refl)
+keeps_command p available (Command.SlotQuery SlotQuery.Kind slot) n = (refl, refl)
+keeps_command p available (Command.SlotQuery SlotQuery.Groups slot) n = (refl, refl)
+keeps_command p available (Command.SlotQuery SlotQuery.State slot) n = (refl, refl)
 keeps_command p available command n = (refl, refl)
 
 keep_alone : (d : Effect) (p : Panel) (f : Bool) (a : SessionAnswer) (q : Panel) → KeepsEffect p d → StepAlone d p f a q → IsKeeping p q

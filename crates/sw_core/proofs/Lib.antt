@@ -1,4 +1,5 @@
 mod RowsLemmas
+mod HardwareLemmas
 mod CallsLemmas
 pub mod AnsweredLemmas
 mod HappenedLemmas

@@ -1,15 +1,18 @@
 -- The first channel of the positions that may not be closed, and whether each position may be.
 use Rattle.std.proofs.Common.{◌≡◌, ℕ, ◌<◌, ◌&&◌, ◌||◌, Bool, true, false, List, [], ◌∷◌, ◌++◌, length, take, Option, None, Some, if◌then◌else◌}
 use Rattle.std.proofs.Common.{refl, ap, sym, subst, ◌∙◌, arith, ◌⊎◌, inl, inr, zero, suc}
-use Rattle.std.specs.Prelude.{slice_index_or}
+use Rattle.std.specs.Prelude.{slice_index_or, nat_lt}
 use Rattle.std.specs.List.{list_all, list_any, Any, AllByRecursion}
 use Rattle.std.proofs.lemmas.Bool.{and_parts, and_from, or_cases, or_left, or_right, both_ways}
+use Rattle.std.proofs.lemmas.Bool.Decides.{nat_tests}
 use Rattle.std.proofs.lemmas.List.Folds.{list_any-append}
 use mathlib.Core.Path.{fun_ext}
 use Rattle.sw_base.specs.Layout.{Channel, Layout, is_present, IsClash}
 use Rattle.sw_channel.specs.Positions.{Position, same_channel, is_among}
+use Rattle.sw_trigger.specs.Settings.{SettingsSeen}
+use Rattle.sw_trigger.specs.Counts.{readings_of}
 use Rattle.sw_verify.specs.declared.refusal.Refusal.{Refusal}
-use Rattle.sw_verify.specs.declared.refusal.Refusal.TheVariants.{GroupClash}
+use Rattle.sw_verify.specs.declared.refusal.Refusal.TheVariants.{GroupClash, TooManyReadings}
 use Rattle.sw_verify.specs.Channels.{Channels, with_channel}
 use Rattle.sw_verify.specs.Sound.{CanCloseOne, CanCloseEach}
 use Rattle.sw_verify.specs.Check.{IsBlocked}
@@ -18,6 +21,7 @@ use Rattle.sw_verify.proofs.Round.{same_channel_is, same_channel_self}
 use Rattle.sw_verify.proofs.Checked.{each_not_barred}
 use Rattle.sw_core.specs.Checking.{first_absent, joined_with}
 use Rattle.sw_core.specs.ScanChecking.{or_next, Blocked, with_other, blocked_by, first_in, first_missing, first_blocked}
+use Rattle.sw_core.specs.ScanChecking.{refused_text, accepted_text, crowded_words, counted_text}
 use Rattle.sw_core.proofs.ClosingToldLemmas.{absent_none, none_absent, joined_some, joined_none, joined_clash}
 
 -- ---- one of the options
@@ -205,3 +209,16 @@ blocked_in layout closed ps p missing f =
     blocked_at layout closed p ps f.at
     (λ present e. each_not_barred layout (is_among closed) p f.cause (none_can layout closed p present e) f.barred)
     (missing_present layout ps missing) f.within f.there f.before
+
+-- ---- what is told
+
+-- of more readings than there is room for
+pub crowded : (s : SettingsSeen) → s.points < readings_of s
+    → refused_text TooManyReadings (crowded_words (readings_of s) s.points) ≡ counted_text s
+crowded s less = by_less (nat_lt s.points (readings_of s)) (grind (arith, nat_tests, less))
+  where
+    by_less : (b : Bool) → b ≡ true
+        → refused_text TooManyReadings (crowded_words (readings_of s) s.points)
+        ≡ (if b then refused_text TooManyReadings (crowded_words (readings_of s) s.points) else accepted_text s)
+    by_less true e = refl
+    by_less false e = absurd (cc (e))

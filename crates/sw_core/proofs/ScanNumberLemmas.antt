@@ -13,6 +13,7 @@ use Rattle.sw_card.specs.declared.board.CardFault.{CardFault}
 use Rattle.sw_lex.specs.declared.command.Command.{Command}
 use Rattle.sw_lex.specs.declared.command.Plain.{Plain}
 use Rattle.sw_lex.specs.declared.command.Channels.{Channels}
+use Rattle.sw_lex.specs.declared.command.SlotQuery.{SlotQuery}
 use Rattle.sw_trigger.specs.Settings.{SettingsSeen}
 use Rattle.sw_status.specs.StatusModel.{StatusSeen}
 use Rattle.sw_verify.specs.declared.snapshot.Snapshot.{Snapshot}
@@ -119,6 +120,9 @@ keeps_command p available (Command.Plain Plain.Reset) = refl
 keeps_command p available (Command.Continuous true) = refl
 keeps_command p available (Command.Continuous false) = refl
 keeps_command p available (Command.Channels Channels.Close chans) = refl
+keeps_command p available (Command.SlotQuery SlotQuery.Kind slot) = refl
+keeps_command p available (Command.SlotQuery SlotQuery.Groups slot) = refl
+keeps_command p available (Command.SlotQuery SlotQuery.State slot) = refl
 keeps_command p available command = refl
 
 keep_alone : (d : Effect) (p : Panel) (f : Bool) (a : SessionAnswer) (q : Panel) → KeepsEffect p d → StepAlone d p f a q → IsKeeping p q

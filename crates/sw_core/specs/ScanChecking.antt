@@ -52,9 +52,9 @@ first_blocked layout closed (p ∷ ps) = or_next (first_in layout closed p) (fir
 
 -- ---- what is told
 
--- `s!c`, and what stands behind it
-abbrev pub written : Channel → List ℕ → List ℕ
-written c behind = decimal c.0 ++ (codes "!" ++ (decimal c.1 ++ behind))
+-- `s!c`
+abbrev pub written : Channel → List ℕ
+written c = decimal c.0 ++ (codes "!" ++ decimal c.1)
 
 -- as a listing is refused, with the cause in words
 abbrev pub refused_text : Refusal → List ℕ → List ℕ
@@ -67,16 +67,16 @@ accepted_text s =
     quoted (codes "ok bound " ++ (decimal (bound_of s) ++ (codes " readings " ++ decimal (readings_of s)))) []
 
 abbrev pub missing_words : Channel → List ℕ
-missing_words c = codes "no such channel: " ++ (decimal c.0 ++ (codes "!" ++ decimal c.1))
+missing_words c = codes "no such channel: " ++ written c
 
 abbrev pub unmeasured_words : ℕ → List ℕ
 unmeasured_words slot = codes "no meter in slot " ++ (decimal slot ++ codes " (ROUTe:SCAN:METer)")
 
 abbrev pub joined_words : Channel → Option Channel → ℕ → List ℕ
-joined_words c None group = written c (codes " is closed already")
+joined_words c None group = written c ++ codes " is closed already"
 joined_words c (Some other) group =
     codes "closing "
-    ++ written c (codes " would join it with " ++ written other (codes ", both of group " ++ decimal group))
+    ++ (written c ++ (codes " would join it with " ++ (written other ++ (codes ", both of group " ++ decimal group))))
 
 abbrev pub blocked_words : Layout → Blocked → List ℕ
 blocked_words layout blocked = joined_words blocked.0 blocked.1 (group_of layout blocked.0)

@@ -3,7 +3,7 @@
 ghost use Rattle.std.specs.Prelude.{◌≡◌, Bool, None, IfOk, string_bytes};
 ghost use Rattle.sw_channel.specs.Positions.{is_among};
 ghost use Rattle.sw_core.specs.ScanChecking.{first_missing, blocked_by, first_in, first_blocked};
-ghost use Rattle.sw_core.specs.ScanChecking.{refused_text, missing_words, joined_words};
+ghost use Rattle.sw_core.specs.ScanChecking.{refused_text, written, missing_words, joined_words};
 ghost use Rattle.sw_core.specs.ScanChecking.{unmeasured_words, crowded_words};
 ghost use Rattle.sw_core.specs.ScanChecking.{counted_text, ready_text, scan_check_text};
 ghost use Rattle.sw_core.specs.Step.{StepText};
@@ -207,14 +207,21 @@ fn joined_words(
 ) -> Result<String, AllocError>
     ensures { IfOk result (λ words. string_bytes words ≡ joined_words chan other group) }
 {
+    let written_chan = written(alloc, chan)?;
+    let chan = written_chan.as_str();
+    let Some(other) = other else {
+        return format!(in alloc; "{chan} is closed already");
+    };
+    let written_other = written(alloc, other)?;
+    let other = written_other.as_str();
+    format!(in alloc; "closing {chan} would join it with {other}, both of group {group}")
+}
+
+/// A channel as a listing writes it.
+fn written(alloc: Global, chan: Chan) -> Result<String, AllocError>
+    ensures { IfOk result (λ text. string_bytes text ≡ written chan) }
+{
     let slot = chan.slot();
     let ch = chan.ch();
-    let Some(other) = other else {
-        return format!(in alloc; "{slot}!{ch} is closed already");
-    };
-    let other_slot = other.slot();
-    let other_ch = other.ch();
-    format!(in alloc;
-        "closing {slot}!{ch} would join it with {other_slot}!{other_ch}, both of group {group}"
-    )
+    format!(in alloc; "{slot}!{ch}")
 }
