@@ -7,4 +7,7 @@ mod StandLemmas
 mod DeterminedLemmas
 mod ListingsLemmas
 mod WelcomeLemmas
+mod RackLemmas
+mod RackWelcomeLemmas
+mod RackLayoutLemmas
 mod PiecesLemmas

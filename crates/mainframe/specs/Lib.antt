@@ -1,4 +1,5 @@
 pub mod Cards
+pub mod RackCards
 pub mod Lines
 pub mod Kept
 pub mod Run
