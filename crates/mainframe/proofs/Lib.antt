@@ -8,6 +8,7 @@ mod DeterminedLemmas
 mod ListingsLemmas
 mod WelcomeLemmas
 mod RackLemmas
+mod RackLineLemmas
 mod RackWelcomeLemmas
 mod RackLayoutLemmas
 mod PiecesLemmas

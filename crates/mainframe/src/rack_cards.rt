@@ -5,6 +5,7 @@ ghost use Rattle.sw_base.specs.Limits.{most_channels};
 ghost use Rattle.sw_cage.specs.Accounts.{slot_contents};
 ghost use Rattle.sw_rack.specs.Coils.{HasCoils};
 ghost use Rattle.sw_serve.specs.SlotCards.{cards_seen};
+ghost use Rattle.mainframe.specs.RackBoards.{IsBoardOf, IsLineBoard};
 ghost use Rattle.mainframe.specs.RackCards.{banks_seen, offered_to, rack_cards, rack_layout, volt_seen};
 
 use crate::rack_fault::RackCardFault;
@@ -193,6 +194,7 @@ pub fn board_of<R: Net<Stream = TcpStream> + Files<File = File> + Clock + Copy +
 ) -> Result<AnyBoard<R>, RackCardFault>
     requires few { channels ≤ most_channels }
     requires coils { HasCoils channels relays }
+    ensures { IfOk result (IsBoardOf channels relays) }
 {
     match relays {
         Relays::Simulated(_) => Ok(AnyBoard::Sim(SimBoard)),
@@ -213,6 +215,8 @@ fn modbus_of<R: Net<Stream = TcpStream> + Files<File = File> + Clock + Copy + Dr
 ) -> Result<AnyBoard<R>, RackCardFault>
     requires few { channels ≤ most_channels }
     requires coils { words.first_coil + channels ≤ 65536 }
+    ensures tcp { wrapping ≡ Wrapping.Tcp → IfOk result (IsBoardOf channels (Relays.ModbusTcp words)) }
+    ensures rtu { wrapping ≡ Wrapping.Rtu → IfOk result (IsBoardOf channels (Relays.ModbusRtu words)) }
 {
     let Modbus {
         place,
@@ -250,6 +254,7 @@ fn lines_of<R: Net<Stream = TcpStream> + Files<File = File> + Clock + Copy + Dro
     words: Lines,
 ) -> Result<AnyBoard<R>, RackCardFault>
     requires { channels ≤ most_channels }
+    ensures { IfOk result (IsBoardOf channels (Relays.Lines words)) }
 {
     let ending = words.answer_end.as_str().as_bytes();
     let commands = commands_of(alloc, &words, channels, b"", ending)?;
@@ -265,6 +270,7 @@ fn scpi_lines_of<R: Net<Stream = TcpStream> + Files<File = File> + Clock + Copy 
     words: Lines,
 ) -> Result<AnyBoard<R>, RackCardFault>
     requires { channels ≤ most_channels }
+    ensures { IfOk result (IsBoardOf channels (Relays.Scpi words)) }
 {
     let commands = commands_of(alloc, &words, channels, b"\n", b"\n")?;
     line_board(rt, slot, words.place, words.limit_ms, commands)
@@ -277,7 +283,9 @@ fn line_board<R: Net<Stream = TcpStream> + Files<File = File> + Clock + Copy + D
     place: Place,
     limit_ms: u32,
     commands: Commands,
-) -> Result<AnyBoard<R>, RackCardFault> {
+) -> Result<AnyBoard<R>, RackCardFault>
+    ensures { IfOk result (IsLineBoard commands) }
+{
     let link = Link::new(
         rt,
         place_of(rt, slot, place)?,

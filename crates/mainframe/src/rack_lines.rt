@@ -1,7 +1,10 @@
 //! The lines that boards and meters of a rack obey.
 
-ghost use Rattle.std.specs.Prelude.{◌≤◌};
+ghost use Rattle.std.specs.Prelude.{◌≡◌, ◌≤◌, ◌++◌, map, string_bytes, IfOk};
 ghost use Rattle.sw_base.specs.Limits.{most_channels};
+ghost use Rattle.sw_rack.specs.Templates.{rendered};
+ghost use Rattle.mainframe.specs.RackBoards.{AreCommandsOf, command_seen, commands_for, each_line, each_query, ended_lines};
+ghost use Rattle.mainframe.specs.RackBoards.{given};
 
 use std::alloc::{AllocError, Global};
 use sw_drivers::{Command, Commands};
@@ -17,6 +20,7 @@ pub fn commands_of(
     ending: &[u8],
 ) -> Result<Commands, AllocError>
     requires { channels ≤ most_channels }
+    ensures { IfOk result (AreCommandsOf channels words.now end.now ending.now) }
 {
     let answer_end = words.answer_end.as_str().as_bytes();
     let answer = words.answer.as_str().as_bytes();
@@ -40,6 +44,8 @@ fn asking(
     ending: &[u8],
 ) -> Result<Vec<Command>, AllocError>
     requires { channels ≤ most_channels }
+    ensures { IfOk result (λ commands. map command_seen commands.items
+        ≡ each_query channels state.now on end.now ending.now) }
 {
     let Some(state) = state else {
         return Ok(Vec::new(alloc));
@@ -69,6 +75,8 @@ fn for_each(
     word: &[u8],
 ) -> Result<Vec<Command>, AllocError>
     requires { channels ≤ most_channels }
+    ensures { IfOk result (λ commands. map command_seen commands.items
+        ≡ each_line channels template.now end.now ending.now word.now) }
 {
     let mut commands = Vec::new(alloc);
     for before in 0..channels {
@@ -86,7 +94,10 @@ fn as_they_are(
     end: &[u8],
     ending: &[u8],
     word: &[u8],
-) -> Result<Vec<Command>, AllocError> {
+) -> Result<Vec<Command>, AllocError>
+    ensures { IfOk result (λ commands. map command_seen commands.items
+        ≡ commands_for lines.now end.now ending.now word.now) }
+{
     let mut commands = Vec::new(alloc);
     for line in lines {
         let sent = with_end(alloc, line.as_str(), end)?;
@@ -98,6 +109,7 @@ fn as_they_are(
 /// What a template gives for a channel. The file was read with it, so it gives something; else it is sent as it is.
 fn line_for(alloc: Global, template: &str, ch: u8) -> Result<Vec<u8>, AllocError>
     requires { ch ≤ most_channels }
+    ensures { IfOk result (λ line. line.items ≡ given template.now (rendered ch template.now)) }
 {
     match rendered(alloc, template, ch)? {
         Some(sent) => Ok(sent),
@@ -106,12 +118,9 @@ fn line_for(alloc: Global, template: &str, ch: u8) -> Result<Vec<u8>, AllocError
 }
 
 /// A command that sends this. Its answer ends so, and has this word.
-fn command(
-    alloc: Global,
-    sent: Vec<u8>,
-    ending: &[u8],
-    word: &[u8],
-) -> Result<Command, AllocError> {
+fn command(alloc: Global, sent: Vec<u8>, ending: &[u8], word: &[u8]) -> Result<Command, AllocError>
+    ensures { IfOk result (λ c. command_seen c ≡ (sent.items, ending.now, word.now)) }
+{
     Ok(Command {
         sent,
         end: ending.to_vec(alloc)?,
@@ -120,7 +129,9 @@ fn command(
 }
 
 /// These lines, each with what ends it.
-pub fn ended(alloc: Global, lines: &[String], end: &[u8]) -> Result<Vec<Vec<u8>>, AllocError> {
+pub fn ended(alloc: Global, lines: &[String], end: &[u8]) -> Result<Vec<Vec<u8>>, AllocError>
+    ensures { IfOk result (λ all. map (λ line. line.items) all.items ≡ ended_lines lines.now end.now) }
+{
     let mut all = Vec::new(alloc);
     for line in lines {
         all.push(with_end(alloc, line.as_str(), end)?)?;
@@ -129,7 +140,9 @@ pub fn ended(alloc: Global, lines: &[String], end: &[u8]) -> Result<Vec<Vec<u8>>
 }
 
 /// A line with what ends it.
-pub fn with_end(alloc: Global, line: &str, end: &[u8]) -> Result<Vec<u8>, AllocError> {
+pub fn with_end(alloc: Global, line: &str, end: &[u8]) -> Result<Vec<u8>, AllocError>
+    ensures { IfOk result (λ bytes. bytes.items ≡ line.now ++ end.now) }
+{
     let mut bytes = line.as_bytes().to_vec(alloc)?;
     bytes.extend_from_slice(end)?;
     Ok(bytes)
