@@ -7,19 +7,19 @@ use Rattle.sw_lex.specs.Table.{table}
 use Rattle.sw_lex.specs.Help.{headers_text, help_lines}
 
 -- its length
-size : decimal 1226 ≡ codes "1226"
+size : decimal 1316 ≡ codes "1316"
 unfolding digits
 size = refl
 
 abbrev lines : List ℕ
 lines = join_with_byte 10 (help_lines table)
 
-long : length lines ≡ 1226
+long : length lines ≡ 1316
 unfolding table
 long = refl
 
 -- the text begins as a block of that length
-pub headed : headers_text ≡ codes "#41226" ++ lines
+pub headed : headers_text ≡ codes "#41316" ++ lines
 unfolding headers_text
 headed =
     ap (λ (n : ℕ). 35 ∷ (48 + length (decimal n)) ∷ (decimal n ++ lines)) long ∙ ap (λ (d : List ℕ). 35 ∷ (48 + length d) ∷ (d ++ lines)) size
