@@ -1,3 +1,4 @@
+pub mod SetupLemmas
 mod RowsLemmas
 mod CallsLemmas
 pub mod AnsweredLemmas
