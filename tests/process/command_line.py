@@ -6,7 +6,8 @@ from support.process import ANSWERED
 def help_is_told(program):
     for words, wanted in [
         (["--help"], [b"run", b"Answer each line of standard input on standard output", b"serve", b"--version"]),
-        (["run", "--help"], [b"--fuse <K>", b"Let the K-th closing of slot 1 fail, K from 1 to 1000000"]),
+        (["run", "--help"], [b"--fuse <K>", b"Let the K-th closing of slot 1 fail, K from 1 to 1000000",
+                             b"--program <FILE>"]),
         (["serve", "--help"], [b"--port <P>", b"Listen on port P, from 1 to 65535", b"4880",
                                b"--address <ADDRESS>", b"127.0.0.1", b"--until-end-of-input", b"--log"]),
         (["check", "--help"], [b"A listing is scan code as text", b"close S!C", b"ok bound B readings R"]),
@@ -27,7 +28,8 @@ def command_lines_are_refused(program):
     for words in [
         [], ["walk"], ["run", "now"], ["run", "--fuse"], ["run", "--fuse", "0"], ["run", "--fuse", "1000001"],
         ["run", "--fuse", "-1"], ["run", "--fuse", "two"], ["run", "--fuse", "4294967296"], ["run", "--loud"],
-        ["run", "--fuse", "1", "--fuse", "2"], ["check", "now"], ["check", "--fuse", "1"],
+        ["run", "--fuse", "1", "--fuse", "2"], ["run", "--program"], ["check", "--program", "x"], ["check", "now"],
+        ["check", "--fuse", "1"],
         ["serve", "now"], ["serve", "--port"], ["serve", "--port", "0"], ["serve", "--port", "65536"],
         ["serve", "--port", "-1"], ["serve", "--port", "hislip"], ["serve", "--fuse", "1"],
         ["serve", "--address"], ["serve", "--address", "localhost"], ["serve", "--address", "127.0.0.1:80"],

@@ -37,10 +37,12 @@ const SERVED: &str =
 const PORT: u16 = 4880;
 
 /// What a command line asks for.
-#[derive(Clone, Copy, Debug, PartialEq, Eq, Drop)]
+#[derive(Debug, PartialEq, Eq, Drop)]
 pub enum Order {
     /// To answer standard input. The closing of slot 1 that has this number, from 1, fails.
     Run(Option<u32>),
+    /// The same with the scan program that this file lists.
+    Program(Option<u32>, String),
     /// To check a listing on standard input.
     Check,
     /// To serve connections.
@@ -79,6 +81,8 @@ pub enum Unrun {
     Words(Error),
     /// The word behind `--address` is no address.
     Address,
+    /// There was no memory for the word behind `--program`.
+    Memory,
 }
 
 impl Unrun {
@@ -87,6 +91,7 @@ impl Unrun {
         match self {
             Unrun::Words(error) => error.kind(),
             Unrun::Address => ErrorKind::ValueValidation,
+            Unrun::Memory => ErrorKind::OutOfMemory,
         }
     }
 }
@@ -94,7 +99,7 @@ impl Unrun {
 /// What these words ask for, of which the first is the program's name, or why they ask for nothing to be run.
 pub fn parse_words(alloc: Global, words: &[String]) -> Result<Order, Unrun> {
     match matches_of(alloc, words) {
-        Ok(matches) => order_of(&matches),
+        Ok(matches) => order_of(alloc, &matches),
         Err(error) => Err(Unrun::Words(error)),
     }
 }
@@ -111,9 +116,14 @@ fn command_line<'a>(alloc: Global) -> Result<Command<'a>, AllocError> {
         .value_name("K")
         .help("Let the K-th closing of slot 1 fail, K from 1 to 1000000")
         .value_parser(clap::value_parser!(u32).range(1..1_000_001));
+    let program = Arg::new(alloc, "program")
+        .long("program")
+        .value_name("FILE")
+        .help("Begin with the listing in FILE as the scan program, on");
     let run = Command::new(alloc, "run")
         .about("Answer each line of standard input on standard output")
-        .arg(fuse)?;
+        .arg(fuse)?
+        .arg(program)?;
     let check = Command::new(alloc, "check")
         .about("Check a listing of scan code on standard input")
         .after_help(LISTING);
@@ -156,12 +166,24 @@ fn serve_words<'a>(alloc: Global) -> Result<Command<'a>, AllocError> {
 }
 
 /// What the words that were understood ask for.
-fn order_of(matches: &ArgMatches) -> Result<Order, Unrun> {
+fn order_of(alloc: Global, matches: &ArgMatches) -> Result<Order, Unrun> {
     match matches.subcommand() {
         Some(("check", _)) => Ok(Order::Check),
         Some(("serve", serve)) => Ok(Order::Serve(serving_of(serve)?)),
-        Some((_, run)) => Ok(Order::Run(run.get_one::<u32>("fuse"))),
+        Some((_, run)) => run_of(alloc, run),
         None => Ok(Order::Run(None)),
+    }
+}
+
+/// How the words of `run` ask for lines to be answered.
+fn run_of(alloc: Global, matches: &ArgMatches) -> Result<Order, Unrun> {
+    let fuse = matches.get_one::<u32>("fuse");
+    let Some(path) = matches.get_str("program") else {
+        return Ok(Order::Run(fuse));
+    };
+    match String::from_str(alloc, path) {
+        Ok(path) => Ok(Order::Program(fuse, path)),
+        Err(_) => Err(Unrun::Memory),
     }
 }
 

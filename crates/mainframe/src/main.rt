@@ -1,6 +1,6 @@
 //! `mainframe`: a SCPI switch mainframe of simulated cards, driven by lines of text or over a network.
 //!
-//! `mainframe run [--fuse K]` answers each line of standard input on standard output. The crate's contract is that of
+//! `mainframe run [--fuse K] [--program FILE]` answers each line of standard input on standard output. The crate's contract is that of
 //! `run::run_lines`: what is written is what the definition of a talk says of what was read, by the step relation of
 //! the core from its opening state. `mainframe check` says of a listing whether the program's cards may do its scan;
 //! its contract is that of `listing::check_listing`. `mainframe serve` serves sessions over TCP at the address and the
@@ -18,6 +18,7 @@ mod explanation;
 mod fault;
 mod laws;
 mod listing;
+mod loading;
 mod misread;
 mod reading;
 mod run;
@@ -33,10 +34,10 @@ use descriptors::are_open;
 use error_log::ErrorLog;
 use fault::RunFault;
 use listing::check_listing;
-use run::run_lines;
+use loading::{LoadFault, program_of};
+use run::{run_lines, run_program_lines};
 use serving::serve_on;
 use std::alloc::{AllocError, Global};
-use std::io;
 use std::io::{BufReader, Read};
 use std::net::{Net, SocketAddr, TcpListener, TcpStream};
 use std::os::fd::AsRawFd;
@@ -44,7 +45,10 @@ use std::process::ExitCode;
 use std::sync::Wait;
 use std::thread::Threads;
 use std::time::Clock;
+use std::{fs, io};
+use sw_lex::BoxedProgram;
 use sw_serve::Door;
+use whole::read_whole;
 
 fn main(rt: HostRuntime) -> ExitCode {
     let Ok(words) = std::env::args(&rt) else {
@@ -56,6 +60,7 @@ fn main(rt: HostRuntime) -> ExitCode {
     };
     match parse_words(rt.alloc(), words.as_slice()) {
         Ok(Order::Run(fuse)) => answer_input(&rt, fuse),
+        Ok(Order::Program(fuse, path)) => answer_with_program(&rt, fuse, &path),
         Ok(Order::Check) => check_input(&rt),
         Ok(Order::Serve(serving)) => {
             let input = if serving.until_end_of_input {
@@ -79,6 +84,40 @@ fn answer_input(rt: &HostRuntime, fuse: Option<u32>) -> ExitCode {
         Ok(()) => ExitCode::SUCCESS,
         Err(fault) => stopped(rt, fault),
     }
+}
+
+/// Answers standard input on standard output, with the scan program that a file lists. Where it lists none, standard
+/// error says why, and the status is 3.
+fn answer_with_program(rt: &HostRuntime, fuse: Option<u32>, path: &str) -> ExitCode {
+    let program = match program_in(rt, path) {
+        Ok(program) => program,
+        Err(LoadFault::File) => {
+            let _ = eprintln!(rt; "mainframe: cannot open the program's file");
+            return ExitCode::FAILURE;
+        }
+        Err(LoadFault::Run(fault)) => return stopped(rt, fault),
+        Err(LoadFault::Listing(why)) => {
+            let _ = eprintln!(rt; "{why}");
+            return ExitCode::from(3);
+        }
+    };
+    let Ok(mut reader) = BufReader::new(rt.alloc(), rt.reader()) else {
+        return stopped(rt, RunFault::Memory);
+    };
+    let mut writer = io::writer(rt);
+    match run_program_lines(rt.alloc(), &mut reader, &mut writer, fuse, program) {
+        Ok(()) => ExitCode::SUCCESS,
+        Err(fault) => stopped(rt, fault),
+    }
+}
+
+/// The scan program that a file lists.
+fn program_in(rt: &HostRuntime, path: &str) -> Result<BoxedProgram, LoadFault> {
+    let Ok(mut file) = fs::open(rt, path) else {
+        return Err(LoadFault::File);
+    };
+    let text = read_whole(rt.alloc(), &mut file)?;
+    program_of(rt.alloc(), &text)
 }
 
 /// Says of the listing on standard input whether it may be done, and on standard error why not.
@@ -153,6 +192,7 @@ fn unrun(rt: &HostRuntime, why: &Unrun) -> ExitCode {
         Unrun::Words(error) => {
             let _ = error.print(rt);
         }
+        Unrun::Memory => {}
         Unrun::Address => {
             let _ = eprintln!(rt;
                 "error: --address <ADDRESS> takes an IPv4 or IPv6 address\n\nFor more information, try '--help'."
