@@ -181,12 +181,7 @@ impl Outboxes {
     }
 
     /// Leaves bytes to a session, all of them or, where there is no room or no memory, none.
-    pub fn append<H: Outbox, W: Wait>(
-        &self,
-        rt: &W,
-        sid: Sid,
-        bytes: &[u8],
-    ) -> Result<(), Refused>
+    pub fn append<H: Outbox, W: Wait>(&self, rt: &W, sid: Sid, bytes: &[u8]) -> Result<(), Refused>
         ensures { OnErr result H.refused }
     {
         match self.slot(sid) {
