@@ -36,7 +36,7 @@ join_whole : (b : Bool) (p : Panel) (sid : Sid) (f : Bool) (q : Panel)
 join_whole true p sid f q s = s.unfailed
 join_whole false p sid f q s = s.acts.0
 
-join_unfailed : (p : Panel) (sid : Sid) (f : Bool) (q : Panel) → Step p (AskSession Ask.Join) f (SaysSession (Joined sid) None) q → f ≡ false
+pub join_unfailed : (p : Panel) (sid : Sid) (f : Bool) (q : Panel) → Step p (AskSession Ask.Join) f (SaysSession (Joined sid) None) q → f ≡ false
 join_unfailed p sid f q s = join_whole ((p.events == last_number) && not (acts_unnumbered (AskSession Ask.Join))) p sid f q s
 
 -- where none fails, nothing comes of the cards

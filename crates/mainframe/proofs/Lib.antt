@@ -2,6 +2,7 @@ mod KnownLemmas
 mod LinesLemmas
 mod KeptLemmas
 mod TurnLemmas
+mod WholeRunLemmas
 mod RunsLemmas
 mod StandLemmas
 mod DeterminedLemmas

@@ -441,10 +441,3 @@ Step p ask f answer q =
 abbrev pub Brings : AnswerSeen → Option WorkSeen → Type 0
 Brings (SaysTaken awaited) work = work ≡ awaited
 Brings answer work = work ≡ None
-
--- A step that leaves this work.
-pub record StepBrings (p : Panel) (ask : AskSeen) (work : Option WorkSeen) (q : Panel) : Type 0 where
-  pub failed : Bool
-  pub answer : AnswerSeen
-  pub step : Step p ask failed answer q
-  pub brings : Brings answer work

@@ -2,6 +2,7 @@
 
 ghost use Rattle.sw_session.specs.Law.{TalkIsDetermined, CoreTalkIsDetermined, CoreRestIsDetermined};
 ghost use Rattle.sw_session.specs.Available.{NoteLeavesOthers};
+ghost use Rattle.sw_session.specs.DeskRuns.{CoreDeskRuns};
 ghost use Rattle.sw_session.specs.Law.{PartsAreOneMessage};
 ghost use Rattle.sw_session.specs.Order.{WorkIsDoneInOrder, WorkIsKeptWhereThereIsRoom};
 
@@ -43,6 +44,13 @@ pub fn core_rest_is_determined()
 /// out in it and then what is outstanding after it.
 pub fn work_is_done_in_order()
     ensures { WorkIsDoneInOrder }
+{}
+
+/// A law: what a `CoreDesk` does over its mainframe is a run, in which a card failed exactly where a count of failures
+/// tells so: its events are, in their order, each ask of the sessions with its answer, and what is told of the work that
+/// was carried out.
+pub fn core_desk_runs()
+    ensures { CoreDeskRuns }
 {}
 
 /// A law: a `CoreDesk` carries a piece of work out at once only where keeping it would take more memory: no ask does so
