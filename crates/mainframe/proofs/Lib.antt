@@ -8,4 +8,8 @@ mod StandLemmas
 mod DeterminedLemmas
 mod ListingsLemmas
 mod WelcomeLemmas
+mod RackLemmas
+mod RackLineLemmas
+mod RackWelcomeLemmas
+mod RackLayoutLemmas
 mod PiecesLemmas

@@ -40,20 +40,20 @@ abbrev pub faulty_line : ListError → List ℕ
 faulty_line e = codes "line " ++ (decimal e.line ++ (codes ": " ++ (fault_name e.kind ++ codes "\n")))
 
 -- The text lists a code that unfolds to items that are sound here, and the line tells their counts.
-pub record IsAccepted (text line : List ℕ) : Type 0 where
+pub record IsAccepted (layout : Layout) (text line : List ℕ) : Type 0 where
   pub code : Program
   pub listed : code_in text ≡ Ok code
   pub judged : Judged
-  pub verified : IsVerified program_layout (is_among []) most_points code judged
+  pub verified : IsVerified layout (is_among []) most_points code judged
   pub told : line ≡ accepted_line judged.bound judged.readings
 
 -- The text lists a code, and the line tells the first cause for which it is refused here. Want of memory is none: it
 -- says nothing of a listing.
-pub record IsRefusedListing (text line : List ℕ) : Type 0 where
+pub record IsRefusedListing (layout : Layout) (text line : List ℕ) : Type 0 where
   pub code : Program
   pub listed : code_in text ≡ Ok code
   pub cause : Refusal
-  pub denied : IsDenied program_layout (is_among []) most_points code cause
+  pub denied : IsDenied layout (is_among []) most_points code cause
   pub named : cause ≢ refusal.NoMemory
   pub told : line ≡ refused_line cause
 
@@ -64,19 +64,19 @@ pub record IsFaulty (text line : List ℕ) : Type 0 where
   pub told : line ≡ faulty_line error
 
 -- what is said of a text
-abbrev pub Says : Bool → List ℕ → List ℕ → Type 0
-Says true text line = IsAccepted text line
-Says false text line = IsRefusedListing text line ⊎ IsFaulty text line
+abbrev pub Says : Layout → Bool → List ℕ → List ℕ → Type 0
+Says layout true text line = IsAccepted layout text line
+Says layout false text line = IsRefusedListing layout text line ⊎ IsFaulty text line
 
 -- it is said and written
-pub record IsChecked (accepted : Bool) (text : List ℕ) (old new : Option (List ℕ)) : Type 0 where
+pub record IsChecked (layout : Layout) (accepted : Bool) (text : List ℕ) (old new : Option (List ℕ)) : Type 0 where
   pub line : List ℕ
-  pub says : Says accepted text line
+  pub says : Says layout accepted text line
   pub writes : Appends old new line
 
 -- a front part of it is written
-pub record IsPartlyChecked (text : List ℕ) (old new : Option (List ℕ)) : Type 0 where
+pub record IsPartlyChecked (layout : Layout) (text : List ℕ) (old new : Option (List ℕ)) : Type 0 where
   pub accepted : Bool
   pub line : List ℕ
-  pub says : Says accepted text line
+  pub says : Says layout accepted text line
   pub writes : WritesPart old new line

@@ -45,7 +45,7 @@ pub fn run_lines<Rd: BufRead, W: Write>(
 
 /// Answers each line of the source as a program message, by a mainframe that takes these cards. The program's are never
 /// refused (`cards_are_welcome`), so where none is to be had there was no memory.
-fn run_over<R: Relay, M: Meter, S: LineSource<W>, W: Write>(
+pub fn run_over<R: Relay, M: Meter, S: LineSource<W>, W: Write>(
     alloc: Global,
     source: &mut S,
     writer: &mut W,
