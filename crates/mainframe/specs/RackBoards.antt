@@ -73,7 +73,7 @@ pub record AreCommandsOf (channels : ℕ) (words : Lines) (end ending : List ℕ
 
 -- ---- the board: the lines of a SCPI instrument, and its answers, end by a line feed
 
-abbrev pub IsBoardOf : {R S F : Type 0} → ℕ → Relays → AnyBoard R S F → Type 0
+abbrev pub IsBoardOf : {W : Type 0} → ℕ → Relays → AnyBoard W → Type 0
 IsBoardOf channels (relays.Simulated closing) (boards.Sim board) = Unit {0}
 IsBoardOf channels (relays.ModbusTcp words) (boards.Modbus board) =
     AreCoilsOf wrappings.Tcp channels words board.coils
@@ -85,6 +85,6 @@ IsBoardOf channels (relays.Scpi words) (boards.Lines board) =
     AreCommandsOf channels words (10 ∷ []) (10 ∷ []) board.commands
 IsBoardOf channels behind board = ⊥
 
-abbrev pub IsLineBoard : {R S F : Type 0} → Commands → AnyBoard R S F → Type 0
+abbrev pub IsLineBoard : {W : Type 0} → Commands → AnyBoard W → Type 0
 IsLineBoard commands (boards.Lines board) = board.commands ≡ commands
 IsLineBoard commands board = ⊥

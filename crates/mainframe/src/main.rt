@@ -16,6 +16,7 @@ mod descriptors;
 mod error_log;
 mod explanation;
 mod fault;
+mod host_link;
 mod laws;
 mod listing;
 mod misread;

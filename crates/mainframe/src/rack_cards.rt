@@ -8,20 +8,19 @@ ghost use Rattle.sw_serve.specs.SlotCards.{cards_seen};
 ghost use Rattle.mainframe.specs.RackBoards.{IsBoardOf, IsLineBoard};
 ghost use Rattle.mainframe.specs.RackCards.{banks_seen, offered_to, rack_cards, rack_layout, volt_seen};
 
+use crate::host_link::HostLink;
 use crate::rack_fault::RackCardFault;
 use crate::rack_lines::{commands_of, ended, with_end};
 use crate::rack_text::{place_of_relays, words_of};
 use std::alloc::{AllocError, Global};
-use std::fs::File;
 use std::io::{self, ErrorKind};
-use std::net::{Net, SocketAddr, TcpStream, ToSocketAddrs};
-use std::rt::Files;
-use std::time::{Clock, Duration};
+use std::net::{SocketAddr, ToSocketAddrs};
+use std::time::Duration;
 use sw_base::{Reading, SLOTS};
 use sw_card::CardFault;
 use sw_drivers::{
-    Account, Banks, Board, Coils, Commands, DriverFault, Interlock, Kept, LineBoard, Link,
-    ModbusBoard, ScpiMeter, SimBoard, Told, Wrapping,
+    Account, Banks, Board, Coils, Commands, DriverFault, Interlock, Kept, LineBoard, ModbusBoard,
+    ScpiMeter, SimBoard, Told, Wire, Wrapping,
 };
 use sw_kinds::{Fuse, SimSource, Source, Volt};
 use sw_rack::{CardKind, Groups, Lines, Meter, Modbus, Place, Query, Rack, RackCard, Relays};
@@ -33,13 +32,13 @@ const SILENCE_US: u64 = 2_000;
 
 /// Any of the boards that a rack's file can ask for.
 #[derive(Drop)]
-pub enum AnyBoard<R: Net<Stream = TcpStream> + Files<File = File> + Clock + Copy + Drop> {
+pub enum AnyBoard<W: Wire> {
     Sim(SimBoard),
-    Modbus(ModbusBoard<Link<R>>),
-    Lines(LineBoard<Link<R>>),
+    Modbus(ModbusBoard<W>),
+    Lines(LineBoard<W>),
 }
 
-impl<R: Net<Stream = TcpStream> + Files<File = File> + Clock + Copy + Drop> Board for AnyBoard<R> {
+impl<W: Wire> Board for AnyBoard<W> {
     ghost use Rattle.std.specs.Prelude.{false, ⊤};
 
     ghost is_on = { λ _ _. false };
@@ -73,16 +72,12 @@ impl<R: Net<Stream = TcpStream> + Files<File = File> + Clock + Copy + Drop> Boar
 
 /// Any of the sources of readings.
 #[derive(Drop)]
-pub enum AnySource<
-    R: Net<Stream = TcpStream> + Files<File = File> + Clock + Copy + Drop,
-    T: Told + Drop,
-> {
+pub enum AnySource<W: Wire, T: Told + Drop> {
     Sim(SimSource),
-    Scpi(ScpiMeter<Link<R>, T>),
+    Scpi(ScpiMeter<W, T>),
 }
 
-impl<R: Net<Stream = TcpStream> + Files<File = File> + Clock + Copy + Drop, T: Told + Drop> Source
-    for AnySource<R, T> {
+impl<W: Wire, T: Told + Drop> Source for AnySource<W, T> {
     fn sample(&mut self) -> Result<Reading, CardFault> {
         match self {
             AnySource::Sim(source) => source.sample(),
@@ -92,22 +87,19 @@ impl<R: Net<Stream = TcpStream> + Files<File = File> + Clock + Copy + Drop, T: T
 }
 
 /// The relays of a rack's card.
-pub type RackRelays<R, T> = Banks<Fuse<Kept<AnyBoard<R>, T>>>;
+pub type RackRelays<T> = Banks<Fuse<Kept<AnyBoard<HostLink>, T>>>;
 
 /// The meter of a rack.
-pub type RackMeter<R, T> = Volt<AnySource<R, T>>;
+pub type RackMeter<T> = Volt<AnySource<HostLink, T>>;
 
 /// The cards of a rack, each reached, with every relay off.
-pub fn cards_of<
-    R: Net<Stream = TcpStream> + Files<File = File> + Clock + Copy + Drop,
-    T: Told + Copy + Drop,
->(
-    rt: R,
+pub fn cards_of<T: Told + Copy + Drop>(
+    rt: HostRuntime,
     alloc: Global,
     rack: Rack,
     interlock: &Interlock,
     told: T,
-) -> Result<Vec<SlotCard<RackRelays<R, T>, RackMeter<R, T>>>, RackCardFault>
+) -> Result<Vec<SlotCard<RackRelays<T>, RackMeter<T>>>, RackCardFault>
     ensures { IfOk result (λ cards. cards_seen banks_seen volt_seen cards.items ≡ rack_cards rack.cards.items) }
 {
     let mut cards = Vec::new(alloc);
@@ -118,16 +110,13 @@ pub fn cards_of<
 }
 
 /// A card of a rack, reached, with every relay off.
-fn card_of<
-    R: Net<Stream = TcpStream> + Files<File = File> + Clock + Copy + Drop,
-    T: Told + Copy + Drop,
->(
-    rt: R,
+fn card_of<T: Told + Copy + Drop>(
+    rt: HostRuntime,
     alloc: Global,
     card: RackCard,
     interlock: &Interlock,
     told: T,
-) -> Result<SlotCard<RackRelays<R, T>, RackMeter<R, T>>, RackCardFault>
+) -> Result<SlotCard<RackRelays<T>, RackMeter<T>>, RackCardFault>
     ensures { IfOk result (λ placed. cards_seen banks_seen volt_seen (placed ∷ []) ≡ rack_cards (card ∷ [])) }
 {
     let RackCard { slot, serial, kind } = card;
@@ -160,9 +149,25 @@ fn fuse_of(relays: &Relays) -> Option<u32> {
     }
 }
 
+/// What reaches this place; it isn't open yet.
+fn link_of(
+    rt: HostRuntime,
+    slot: u8,
+    place: Place,
+    limit_ms: u32,
+    silence_us: u64,
+) -> Result<HostLink, RackCardFault> {
+    Ok(HostLink::new(
+        rt,
+        place_of(rt, slot, place)?,
+        Duration::from_millis(u64::from(limit_ms)),
+        Duration::from_micros(silence_us),
+    ))
+}
+
 /// Where the text says that something is reached.
-fn place_of<R: Net<Stream = TcpStream> + Files<File = File> + Clock + Copy + Drop>(
-    rt: R,
+fn place_of(
+    rt: HostRuntime,
     slot: u8,
     place: Place,
 ) -> Result<sw_drivers::Place, RackCardFault> {
@@ -177,7 +182,7 @@ fn place_of<R: Net<Stream = TcpStream> + Files<File = File> + Clock + Copy + Dro
 }
 
 /// The first address of a host's name and a port.
-fn first_address<R: Net + Drop>(rt: R, address: &str) -> io::Result<SocketAddr> {
+fn first_address(rt: HostRuntime, address: &str) -> io::Result<SocketAddr> {
     let mut found = address.to_socket_addrs(&rt)?;
     found
         .next()
@@ -185,13 +190,13 @@ fn first_address<R: Net + Drop>(rt: R, address: &str) -> io::Result<SocketAddr> 
 }
 
 /// The board behind a card's channels; it isn't reached yet.
-pub fn board_of<R: Net<Stream = TcpStream> + Files<File = File> + Clock + Copy + Drop>(
-    rt: R,
+pub fn board_of(
+    rt: HostRuntime,
     alloc: Global,
     slot: u8,
     channels: u8,
     relays: Relays,
-) -> Result<AnyBoard<R>, RackCardFault>
+) -> Result<AnyBoard<HostLink>, RackCardFault>
     requires few { channels ≤ most_channels }
     requires coils { HasCoils channels relays }
     ensures { IfOk result (IsBoardOf channels relays) }
@@ -206,13 +211,13 @@ pub fn board_of<R: Net<Stream = TcpStream> + Files<File = File> + Clock + Copy +
 }
 
 /// A board that speaks Modbus.
-fn modbus_of<R: Net<Stream = TcpStream> + Files<File = File> + Clock + Copy + Drop>(
-    rt: R,
+fn modbus_of(
+    rt: HostRuntime,
     slot: u8,
     channels: u8,
     wrapping: Wrapping,
     words: Modbus,
-) -> Result<AnyBoard<R>, RackCardFault>
+) -> Result<AnyBoard<HostLink>, RackCardFault>
     requires few { channels ≤ most_channels }
     requires coils { words.first_coil + channels ≤ 65536 }
     ensures tcp { wrapping ≡ Wrapping.Tcp → IfOk result (IsBoardOf channels (Relays.ModbusTcp words)) }
@@ -229,12 +234,7 @@ fn modbus_of<R: Net<Stream = TcpStream> + Files<File = File> + Clock + Copy + Dr
         Wrapping::Tcp => 0,
         Wrapping::Rtu => SILENCE_US,
     };
-    let link = Link::new(
-        rt,
-        place_of(rt, slot, place)?,
-        Duration::from_millis(u64::from(limit_ms)),
-        Duration::from_micros(silence),
-    );
+    let link = link_of(rt, slot, place, limit_ms, silence)?;
     let coils = Coils {
         wrapping,
         unit,
@@ -246,13 +246,13 @@ fn modbus_of<R: Net<Stream = TcpStream> + Files<File = File> + Clock + Copy + Dr
 }
 
 /// A board that obeys lines of its own.
-fn lines_of<R: Net<Stream = TcpStream> + Files<File = File> + Clock + Copy + Drop>(
-    rt: R,
+fn lines_of(
+    rt: HostRuntime,
     alloc: Global,
     slot: u8,
     channels: u8,
     words: Lines,
-) -> Result<AnyBoard<R>, RackCardFault>
+) -> Result<AnyBoard<HostLink>, RackCardFault>
     requires { channels ≤ most_channels }
     ensures { IfOk result (IsBoardOf channels (Relays.Lines words)) }
 {
@@ -262,13 +262,13 @@ fn lines_of<R: Net<Stream = TcpStream> + Files<File = File> + Clock + Copy + Dro
 }
 
 /// The relays of a SCPI instrument, whose lines and answers end by a line feed.
-fn scpi_lines_of<R: Net<Stream = TcpStream> + Files<File = File> + Clock + Copy + Drop>(
-    rt: R,
+fn scpi_lines_of(
+    rt: HostRuntime,
     alloc: Global,
     slot: u8,
     channels: u8,
     words: Lines,
-) -> Result<AnyBoard<R>, RackCardFault>
+) -> Result<AnyBoard<HostLink>, RackCardFault>
     requires { channels ≤ most_channels }
     ensures { IfOk result (IsBoardOf channels (Relays.Scpi words)) }
 {
@@ -277,29 +277,27 @@ fn scpi_lines_of<R: Net<Stream = TcpStream> + Files<File = File> + Clock + Copy 
 }
 
 /// A board that obeys these commands.
-fn line_board<R: Net<Stream = TcpStream> + Files<File = File> + Clock + Copy + Drop>(
-    rt: R,
+fn line_board(
+    rt: HostRuntime,
     slot: u8,
     place: Place,
     limit_ms: u32,
     commands: Commands,
-) -> Result<AnyBoard<R>, RackCardFault>
+) -> Result<AnyBoard<HostLink>, RackCardFault>
     ensures { IfOk result (IsLineBoard commands) }
 {
-    let link = Link::new(
-        rt,
-        place_of(rt, slot, place)?,
-        Duration::from_millis(u64::from(limit_ms)),
-        Duration::from_micros(0),
-    );
+    let link = link_of(rt, slot, place, limit_ms, 0)?;
     Ok(AnyBoard::Lines(LineBoard::new(link, commands)))
 }
 
 /// What gives a meter's readings, reached and set up.
-pub fn source_of<
-    R: Net<Stream = TcpStream> + Files<File = File> + Clock + Copy + Drop,
-    T: Told + Drop,
->(rt: R, alloc: Global, slot: u8, meter: Meter, told: T) -> Result<AnySource<R, T>, RackCardFault> {
+pub fn source_of<T: Told + Drop>(
+    rt: HostRuntime,
+    alloc: Global,
+    slot: u8,
+    meter: Meter,
+    told: T,
+) -> Result<AnySource<HostLink, T>, RackCardFault> {
     match meter {
         Meter::Simulated(first, step) => Ok(AnySource::Sim(SimSource::new(first, step))),
         Meter::Scpi(words) => {
@@ -310,12 +308,7 @@ pub fn source_of<
                 query,
             } = words;
             let at = String::from_str(alloc, words_of(&place))?;
-            let link = Link::new(
-                rt,
-                place_of(rt, slot, place)?,
-                Duration::from_millis(u64::from(limit_ms)),
-                Duration::from_micros(0),
-            );
+            let link = link_of(rt, slot, place, limit_ms, 0)?;
             let setup = ended(alloc, setup.as_slice(), b"\n")?;
             let query = with_end(alloc, query.as_str(), b"\n")?;
             match ScpiMeter::new(link, slot, setup, query, told) {

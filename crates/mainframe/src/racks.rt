@@ -15,12 +15,12 @@ use sw_serve::SlotCard;
 
 /// Standard error, where a driver tells why a call of it has failed.
 #[derive(Clone, Copy, Drop)]
-pub struct ErrorTold<W: Eprint + Copy + Drop> {
-    rt: W,
+pub struct ErrorTold {
+    rt: HostRuntime,
     alloc: Global,
 }
 
-impl<W: Eprint + Copy + Drop> Told for ErrorTold<W> {
+impl Told for ErrorTold {
     fn tell(&self, slot: u8, fault: DriverFault) {
         if let Ok(line) = format!(in self.alloc; "mainframe: slot {slot}: {fault}\n") {
             let _ = eprint!(self.rt; "{line}");
@@ -28,11 +28,8 @@ impl<W: Eprint + Copy + Drop> Told for ErrorTold<W> {
     }
 }
 
-/// Standard error.
-type Teller = ErrorTold<HostRuntime>;
-
 /// The cards of a rack for their slots, over the host's network and files.
-pub type HostCards = Vec<SlotCard<RackRelays<HostRuntime, Teller>, RackMeter<HostRuntime, Teller>>>;
+pub type HostCards = Vec<SlotCard<RackRelays<ErrorTold>, RackMeter<ErrorTold>>>;
 
 /// The text of this file.
 fn text_in<W: Files>(rt: &W, alloc: Global, path: &str) -> io::Result<String> {
