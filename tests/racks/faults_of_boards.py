@@ -1,4 +1,5 @@
 """What boards and meters do wrong, and networks: each ends with every relay open, or nothing closed."""
+import re
 import time
 
 from support.boards import LIMIT, bench
@@ -151,6 +152,27 @@ def a_server_ends_beside_a_board_that_is_gone(program, folder):
              "mainframe: slot 1: its board has not confirmed that its relays are off\n")
 
 
+def each_failure_is_told_to_the_log(program, folder):
+    """A closing, an opening and a measurement that fail are one line each, with the card's slot."""
+    with bench(folder, ["none"]) as (board, _, path), Supervised(program.path, "--rack", str(path), "--log") as served, \
+            client_of(served) as client:
+        board.coils[7] = True
+        check_refused(client, "a closing")
+        closed_then(client, "(@1!3)", lambda: board.coils.__setitem__(7, True))
+        check_refused(client, "an opening", "ROUT:OPEN (@1!3)")
+        client.query("ROUT:SCAN (@1!1);:INIT;*OPC?")
+        told = [1, 1, 4]
+        wait_until("the last line", lambda: len(failed_calls(served)) >= len(told))
+        same("slots of calls that failed", failed_calls(served), told)
+
+
+def failed_calls(served):
+    """The slots of the calls that the log tells have failed."""
+    lines = [re.fullmatch(r"mainframe: the card in slot (\d+) failed\n", line) for line in served.remarks]
+    return [int(line[1]) for line in lines if line]
+
+
 CHECKS = [a_board_whose_cable_is_out, a_board_that_hangs, a_board_that_lost_its_supply, another_master,
           an_idle_connection_that_ends, garbled_answers, a_late_answer_is_not_the_next_one,
-          a_board_that_stops_in_a_scan, a_meter_that_fails_in_a_scan, a_server_ends_beside_a_board_that_is_gone]
+          a_board_that_stops_in_a_scan, a_meter_that_fails_in_a_scan, a_server_ends_beside_a_board_that_is_gone,
+          each_failure_is_told_to_the_log]
