@@ -97,4 +97,4 @@ works-piece start piece ask old mid new work tells told adds = record {
 pub ended : (arrived : Pause → Type 0) (reached : Instant → Type 0) (stands : Option Pause) (ticket : Ticket) → IfSome stands arrived
     → EndsStanding reached stands (Ends ticket) → (micros : ℕ) × IsOverPause arrived reached (Pauses ticket micros)
 ended arrived reached None ticket h e = absurd e
-ended arrived reached (Some p) ticket h e = (p.micros, p, h, e.1, sym e.0, refl)
+ended arrived reached (Some p) ticket h e = (p.micros, (p, h, e.1, sym e.0, refl))
