@@ -15,7 +15,7 @@ use Rattle.sw_core.specs.Step.{Step}
 use Rattle.sw_session.specs.declared.desk.Wake.TheVariants.{Again}
 use Rattle.sw_session.specs.CoreDesk.{last_wait}
 use Rattle.sw_session.specs.DeskRuns.{Exchange, asked_in}
-use Rattle.sw_session.specs.Trace.{Entry, Waited}
+use Rattle.sw_session.specs.Trace.{Waited}
 use Rattle.sw_session.proofs.DeskRunsLemmas.{RunsAsking, stays, begins, goes-on, leads-runs}
 use Rattle.sw_serve.specs.SlotCards.{PlacedCard, TakesCards, Joins, IsSetUp}
 use Rattle.sw_serve.proofs.FittingLemmas.{joined_bare}

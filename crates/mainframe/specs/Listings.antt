@@ -1,5 +1,5 @@
 -- What `check` writes of a listing: whether the program's cards may do its scan, with nothing closed (own).
-use Rattle.std.specs.Prelude.{◌≡◌, ◌≢◌, ℕ, Bool, true, false, List, [], ◌∷◌, ◌++◌, Option, Some, Ok, Err, ◌⊎◌}
+use Rattle.std.specs.Prelude.{◌≡◌, ◌≢◌, ℕ, Bool, true, false, List, [], ◌++◌, Option, Some, Ok, Err, ◌⊎◌}
 use Rattle.std.specs.Prelude.{codes, decimal, map}
 use Rattle.std.specs.Io.KnownBytes.{Appends}
 use Rattle.sw_base.specs.Layout.{Layout}
