@@ -166,11 +166,7 @@ fn link_of(
 }
 
 /// Where the text says that something is reached.
-fn place_of(
-    rt: HostRuntime,
-    slot: u8,
-    place: Place,
-) -> Result<sw_drivers::Place, RackCardFault> {
+fn place_of(rt: HostRuntime, slot: u8, place: Place) -> Result<sw_drivers::Place, RackCardFault> {
     match place {
         Place::Device(path) => Ok(sw_drivers::Place::Device(path)),
         Place::Waiting(path) => Ok(sw_drivers::Place::Waiting(path)),

@@ -39,8 +39,9 @@ pub use core_desk::CoreDesk;
 pub use desk::{Desk, View, Wake};
 pub use engine::{Channel, Engine, Sent, Step};
 pub use laws::{
-    core_desk_runs, core_rest_is_determined, core_talk_is_determined, note_leaves_others, parts_are_one_message,
-    talk_is_determined, work_is_done_in_order, work_is_kept_where_there_is_room,
+    core_desk_runs, core_rest_is_determined, core_talk_is_determined, note_leaves_others,
+    parts_are_one_message, talk_is_determined, work_is_done_in_order,
+    work_is_kept_where_there_is_room,
 };
 pub use servers::{
     Memory, ServeFault, Sink, Source, Unread, Unwritten, serve_async, serve_channel, serve_sync,
