@@ -11,7 +11,8 @@ from pymodbus.transaction import ModbusRtuFramer
 async def answer(unit, count, port, *device):
     coils = ModbusSlaveContext(co=ModbusSequentialDataBlock(0, [False] * int(count)), zero_mode=True)
     context = ModbusServerContext(slaves={int(unit): coils}, single=False)
-    ways = [StartAsyncTcpServer(context=context, address=("127.0.0.1", int(port)), ignore_missing_slaves=True)]
+    ways = [StartAsyncTcpServer(context=context, address=("127.0.0.1", int(port)), ignore_missing_slaves=True,
+                                allow_reuse_address=True)]
     for path in device:
         ways.append(StartAsyncSerialServer(context=context, framer=ModbusRtuFramer, port=path, baudrate=19_200,
                                            ignore_missing_slaves=True))
