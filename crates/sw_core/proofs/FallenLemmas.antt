@@ -11,8 +11,9 @@ use Rattle.sw_base.specs.declared.error.ScpiError.TheVariants.{OutOfMemory, Trig
 use Rattle.sw_card.specs.Account.{Account, none_closed}
 use Rattle.sw_card.specs.declared.board.CardFault.{CardFault}
 use Rattle.sw_status.specs.StatusModel.{StatusSeen}
-use Rattle.sw_trigger.specs.Settings.{SettingsSeen}
-use Rattle.sw_verify.specs.Course.{CourseSeen, course_of}
+use Rattle.sw_verify.specs.declared.setup.Setup.{Setup}
+use Rattle.sw_verify.specs.Course.{CourseSeen}
+use Rattle.sw_verify.specs.Setup.{course_of}
 use Rattle.sw_verify.specs.declared.snapshot.Snapshot.{Snapshot}
 use Rattle.sw_cage.specs.Accounts.{Accounts, is_closed, all_open, option_rest}
 use Rattle.sw_cage.specs.Change.{identity}
@@ -147,7 +148,7 @@ no_done : (after : Panel) (a : SessionAnswer) (q : Panel) → StepDone after tru
 no_done after (Done None) q h = true_is_false h.0
 no_done after a q h = absurd h
 
-no_setting : (p : Panel) (Fits : Type 0) (error : ScpiError) (setup : SettingsSeen) (a : SessionAnswer) (q : Panel) → StepSetting p Fits error setup true a q
+no_setting : (p : Panel) (Fits : Type 0) (error : ScpiError) (setup : Setup) (a : SessionAnswer) (q : Panel) → StepSetting p Fits error setup true a q
     → ⊥
 no_setting p Fits error setup (Done None) q h = true_is_false h.0
 no_setting p Fits error setup (Refused e) q h = true_is_false h.0
@@ -192,7 +193,7 @@ told_alone (TellsText text) p a q h = absurd (no_text p (text p) p.status a q h)
 told_alone (TellsReadings readings) p a q h = absurd (no_readings (readings p) p a q h)
 told_alone (ReadsOut text after) p a q h = absurd (no_text p (text p.status) (after p.status) a q h)
 told_alone (SetsStatus after) p a q h = absurd (no_done (record p { status = after p.status }) a q h)
-told_alone (SetsUp Fits error after) p a q h = absurd (no_setting p Fits error (after p.settings) a q h)
+told_alone (SetsUp Fits error after) p a q h = absurd (no_setting p (Fits p.settings) error (after p.settings) a q h)
 told_alone (ClosesListed chans) p a q h = told_close p chans a q h
 told_alone (OpensListed chans) p a q h = told_open p chans a q h
 told_alone (TellsHardware there text) p a q h = absurd (no_hardware p (there p) (text p) a q h)
