@@ -187,7 +187,8 @@ def is_refused_as_data(served):
                             (' #10,#10', '-108,"Parameter not allowed"'), (":STAT", '-109,"Missing parameter"'),
                             (":STAT BUS", '-224,"Illegal parameter value"'),
                             (":DEL 1", '-108,"Parameter not allowed"')]:
-            same(data, mainframe.query(f"*RST;:ROUT:SCAN:PROG{data};:SYST:ERR:ALL?"), error)
+            mainframe.write(f"*RST;:ROUT:SCAN:PROG{data}")
+            same(data, mainframe.query("SYST:ERR:ALL?"), error)
 
 
 def takes_a_long_listing(served):
