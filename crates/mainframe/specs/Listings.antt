@@ -12,7 +12,7 @@ use Rattle.sw_code.specs.Reading.{code_in}
 use Rattle.sw_verify.specs.declared.refusal.Refusal.{Refusal}
 use Rattle.sw_verify.specs.declared.refusal.Refusal.TheVariants as refusal
 use Rattle.sw_verify.specs.Channels.{is_among}
-use Rattle.sw_verify.specs.Check.{refusal_number, refusal_name}
+use Rattle.sw_verify.specs.Check.{refusal_number}
 use Rattle.sw_verify.specs.Judged.{Judged, IsVerified}
 use Rattle.sw_verify.specs.Denied.{IsDenied}
 use Rattle.sw_cage.specs.Accounts.{layout_of}
@@ -28,6 +28,18 @@ fault_name BadStep = codes "BadStep"
 fault_name BadNumber = codes "BadNumber"
 fault_name TooLong = codes "TooLong"
 fault_name NoMemory = codes "NoMemory"
+
+abbrev pub refusal_name : Refusal → List ℕ
+refusal_name refusal.EmptyList = codes "EmptyList"
+refusal_name refusal.NoChannel = codes "NoChannel"
+refusal_name refusal.NoMeter = codes "NoMeter"
+refusal_name refusal.GroupClash = codes "GroupClash"
+refusal_name refusal.TooManyReadings = codes "TooManyReadings"
+refusal_name refusal.BadNesting = codes "BadNesting"
+refusal_name refusal.BadJump = codes "BadJump"
+refusal_name refusal.LeftClosed = codes "LeftClosed"
+refusal_name refusal.NotClosed = codes "NotClosed"
+refusal_name refusal.NoMemory = codes "NoMemory"
 
 abbrev pub accepted_line : ℕ → ℕ → List ℕ
 accepted_line bound readings =

@@ -7,7 +7,7 @@ ghost use Rattle.sw_base.specs.Limits.{most_points};
 ghost use Rattle.sw_code.specs.Reading.{code_in};
 ghost use Rattle.sw_verify.specs.Channels.{is_among};
 ghost use Rattle.sw_verify.specs.Judged.{IsVerified};
-ghost use Rattle.mainframe.specs.Listings.{program_layout, fault_name, Says, IsChecked, IsPartlyChecked};
+ghost use Rattle.mainframe.specs.Listings.{program_layout, fault_name, refusal_name, Says, IsChecked, IsPartlyChecked};
 ghost use Rattle.mainframe.specs.Turns.{IsOfReading};
 ghost use Rattle.mainframe.specs.Whole.{StandsAt};
 ghost use Rattle.mainframe.specs.Listings.{accepted_line, refused_line, faulty_line};
@@ -166,7 +166,7 @@ fn refused_line(alloc: Global, refusal: Refusal) -> Result<String, AllocError>
     ensures { IfOk result (λ line. string_bytes line ≡ refused_line refusal) }
 {
     let number = refusal.number();
-    let name = refusal.name();
+    let name = refusal_name(refusal);
     format!(in alloc; "refused {number} {name}\n")
 }
 
@@ -199,5 +199,22 @@ fn fault_name(fault: ListFault) -> &'static str
         ListFault::BadNumber => "BadNumber",
         ListFault::TooLong => "TooLong",
         ListFault::NoMemory => "NoMemory",
+    }
+}
+
+fn refusal_name(refusal: Refusal) -> &'static str
+    ensures { result.now ≡ refusal_name refusal }
+{
+    match refusal {
+        Refusal::EmptyList => "EmptyList",
+        Refusal::NoChannel => "NoChannel",
+        Refusal::NoMeter => "NoMeter",
+        Refusal::GroupClash => "GroupClash",
+        Refusal::TooManyReadings => "TooManyReadings",
+        Refusal::BadNesting => "BadNesting",
+        Refusal::BadJump => "BadJump",
+        Refusal::LeftClosed => "LeftClosed",
+        Refusal::NotClosed => "NotClosed",
+        Refusal::NoMemory => "NoMemory",
     }
 }

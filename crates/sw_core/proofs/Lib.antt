@@ -1,5 +1,4 @@
 mod RowsLemmas
-mod HardwareLemmas
 mod CallsLemmas
 pub mod AnsweredLemmas
 mod HappenedLemmas
@@ -31,8 +30,5 @@ mod ScanRunsLemmas
 mod ScanNumberLemmas
 mod ReadsLemmas
 mod ClosingToldLemmas
-mod ScanCheckingLemmas
-mod ScanToldLemmas
-mod SlotsToldLemmas
 mod EveryRunLemmas
 mod GoingOnLemmas

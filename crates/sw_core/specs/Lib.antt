@@ -7,8 +7,6 @@ pub mod Panel
 pub mod Registers
 pub mod Event
 pub mod Checking
-pub mod ScanChecking
-pub mod SlotTexts
 pub mod Action
 pub mod Step
 pub mod Good
@@ -17,6 +15,4 @@ pub mod Run
 pub mod Ends
 pub mod Reads
 pub mod ClosingTold
-pub mod ScanTold
-pub mod SlotsTold
 pub mod Opening

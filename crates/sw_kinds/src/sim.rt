@@ -42,10 +42,6 @@ impl Driver for SimDriver {
         Ok(())
     }
 
-    fn is_sure(&self) -> bool {
-        true
-    }
-
     fn cut(&mut self) {
         self.coils = no_flags();
     }

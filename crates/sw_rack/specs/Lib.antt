@@ -2,6 +2,7 @@ pub mod Keys
 pub mod Forms
 pub mod Reading
 pub mod Fields
+pub mod Coils
 pub mod Seen
 pub mod Templates
 pub mod Cards

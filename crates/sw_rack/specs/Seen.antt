@@ -2,18 +2,18 @@
 use Rattle.std.specs.Prelude.{ℕ, ℤ, Bool, List, map, Option, option_map, string_bytes, String}
 use Rattle.std.specs.declared.alloc.Global.{Global}
 use Rattle.sw_rack.specs.declared.rack.RackCard.{RackCard}
-use Rattle.sw_rack.specs.declared.rack.CardKind.{CardKind}
-use Rattle.sw_rack.specs.declared.rack.CardKind.TheVariants as kinds
-use Rattle.sw_rack.specs.declared.rack.Relays.{Relays}
-use Rattle.sw_rack.specs.declared.rack.Relays.TheVariants as relays
-use Rattle.sw_rack.specs.declared.rack.Meter.{Meter}
-use Rattle.sw_rack.specs.declared.rack.Meter.TheVariants as meters
-use Rattle.sw_rack.specs.declared.rack.Place.{Place}
-use Rattle.sw_rack.specs.declared.rack.Place.TheVariants as places
-use Rattle.sw_rack.specs.declared.rack.Modbus.{Modbus}
-use Rattle.sw_rack.specs.declared.rack.Lines.{Lines}
-use Rattle.sw_rack.specs.declared.rack.State.{State}
-use Rattle.sw_rack.specs.declared.rack.Query.{Query}
+use Rattle.sw_rack.specs.declared.kind.CardKind.{CardKind}
+use Rattle.sw_rack.specs.declared.kind.CardKind.TheVariants as kinds
+use Rattle.sw_rack.specs.declared.kind.Relays.{Relays}
+use Rattle.sw_rack.specs.declared.kind.Relays.TheVariants as relays
+use Rattle.sw_rack.specs.declared.kind.Meter.{Meter}
+use Rattle.sw_rack.specs.declared.kind.Meter.TheVariants as meters
+use Rattle.sw_rack.specs.declared.kind.Place.{Place}
+use Rattle.sw_rack.specs.declared.kind.Place.TheVariants as places
+use Rattle.sw_rack.specs.declared.kind.Modbus.{Modbus}
+use Rattle.sw_rack.specs.declared.kind.Lines.{Lines}
+use Rattle.sw_rack.specs.declared.kind.State.{State}
+use Rattle.sw_rack.specs.declared.kind.Query.{Query}
 
 pub data PlaceSeen : Type 0 where
   Address : (text : List ℕ) → PlaceSeen

@@ -5,6 +5,7 @@ ghost use Rattle.sw_base.specs.Limits.{most_channels, most_slots};
 ghost use Rattle.toml.specs.View.{view, table_view};
 ghost use Rattle.sw_rack.specs.Cards.{all_fitting, card_in, card_of, fitting, form_of, kind_of, meter_form, meter_of};
 ghost use Rattle.sw_rack.specs.Cards.{relay_form, relays_of, scpi_meter_of, simulated_meter_of};
+ghost use Rattle.sw_rack.specs.Coils.{HasItsCoils};
 ghost use Rattle.sw_rack.specs.Keys.{named, all_keys};
 ghost use Rattle.sw_rack.specs.Reading.{Gives};
 ghost use Rattle.sw_rack.specs.Seen.{card_seen, kind_seen, meter_seen};
@@ -13,7 +14,8 @@ use crate::cause::{Cause, Choice, ReadError};
 use crate::fields::{integer, number};
 use crate::form::{Form, MeterForm, RelayForm};
 use crate::key::{Key, key_named};
-use crate::rack::{CardKind, Meter, Query, RackCard};
+use crate::kind::{CardKind, Meter, Query};
+use crate::rack::RackCard;
 use crate::relays::{read_behind, read_groups};
 use crate::usual::{number_or, place, string_or, texts_or, wanted_text};
 use std::alloc::Global;
@@ -122,7 +124,8 @@ fn check_key(alloc: Global, form: Form, name: &str) -> Result<(), ReadError>
 
 #[tactic(auto, unfolding(crate::specs::Cards::kind_of))]
 fn read_kind(alloc: Global, form: Form, table: &Table) -> Result<CardKind, ReadError>
-    ensures { Gives kind_seen result (kind_of form (table_view table.now)) }
+    ensures given { Gives kind_seen result (kind_of form (table_view table.now)) }
+    ensures coils { IfOk result HasItsCoils }
 {
     match form {
         Form::Relays(form) => read_relays(alloc, form, table),
@@ -132,7 +135,8 @@ fn read_kind(alloc: Global, form: Form, table: &Table) -> Result<CardKind, ReadE
 
 #[tactic(auto, unfolding(crate::specs::Cards::relays_of))]
 fn read_relays(alloc: Global, form: RelayForm, table: &Table) -> Result<CardKind, ReadError>
-    ensures { Gives kind_seen result (relays_of form (table_view table.now)) }
+    ensures given { Gives kind_seen result (relays_of form (table_view table.now)) }
+    ensures coils { IfOk result HasItsCoils }
 {
     let Some(channels) = number(alloc, table, Key::Channels, 1, 99)? else {
         return Err(ReadError::Fault(Cause::Missing(Key::Channels), String::new(alloc)));

@@ -1,7 +1,8 @@
 //! The description of a rack: which card is in which slot, and what stands behind it.
 //!
 //! The crate's contract to the layers above: a text means one rack, or is no TOML, or has one first fault, as `rack_of`
-//! of `specs/Racks` says. A rack has slots from 1 to 16, each once, and a relay card from 1 to 99 channels.
+//! of `specs/Racks` says. A rack has slots from 1 to 16, each once, a relay card from 1 to 99 channels, and each
+//! channel of a board that speaks Modbus has a coil.
 //!
 //! It opens no file and no line. Nothing is promised of what an address or a path reaches.
 #![tactic(auto)]
@@ -12,6 +13,7 @@ mod fault;
 mod fields;
 mod form;
 mod key;
+mod kind;
 mod line;
 mod lines;
 mod rack;
@@ -26,9 +28,8 @@ pub use cause::{Cause, Choice, Wanted};
 pub use fault::RackError;
 pub use form::{Form, MeterForm, RelayForm};
 pub use key::Key;
-pub use rack::{
-    CardKind, Groups, Lines, Meter, Modbus, Place, Query, Rack, RackCard, Relays, State,
-};
+pub use kind::{CardKind, Groups, Lines, Meter, Modbus, Place, Query, Relays, State};
+pub use rack::{Rack, RackCard};
 pub use rack_fault::RackFault;
 pub use read::read_rack;
 pub use template::rendered;

@@ -12,7 +12,7 @@ ghost use Rattle.sw_rack.specs.Seen.{lines_seen, state_seen, texts_seen};
 use crate::cause::{Cause, ReadError};
 use crate::fields::{text, texts};
 use crate::key::Key;
-use crate::rack::{Lines, State};
+use crate::kind::{Lines, State};
 use crate::template::rendered;
 use crate::usual::{number_or, place, string, string_or, texts_or};
 use std::alloc::Global;

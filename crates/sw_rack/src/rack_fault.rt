@@ -65,7 +65,12 @@ fn write_plain<W: Write>(f: &mut Formatter<W>, cause: Cause) -> fmt::Result {
         Cause::Groups(groups, channels) => {
             write!(f, "`groups` has {groups} numbers for {channels} channels")
         }
-        Cause::Coil(last) => write!(f, "the last channel's coil would be {last}, above 65535"),
+        Cause::Coil(last) => {
+            write!(
+                f,
+                "`first_coil`: the last channel's coil would be {last}, above 65535"
+            )
+        },
         Cause::Template(key) => {
             let name = key.name();
             write!(

@@ -1,9 +1,10 @@
 //! What stands behind a relay card.
 
-ghost use Rattle.std.specs.Prelude.{◌≡◌, ◌≤◌, ◌+◌, option_map, IfOk, IfSome};
+ghost use Rattle.std.specs.Prelude.{◌≡◌, ◌≤◌, ◌+◌, option_map, length, IfOk, IfSome};
 ghost use Rattle.sw_base.specs.Limits.{most_channels};
 ghost use Rattle.toml.specs.View.{table_view};
 ghost use Rattle.sw_rack.specs.Cards.{behind_of, chosen_groups, coils_from, groups_of, modbus_of, rtu_place, tcp_place};
+ghost use Rattle.sw_rack.specs.Coils.{HasCoils};
 ghost use Rattle.sw_rack.specs.Reading.{Gives};
 ghost use Rattle.sw_rack.specs.Seen.{PlaceSeen, modbus_seen, place_seen, relays_seen};
 
@@ -11,8 +12,8 @@ use crate::cause::{Cause, ReadError};
 use crate::fields::{flag, groups, number};
 use crate::form::RelayForm;
 use crate::key::Key;
+use crate::kind::{Groups, Modbus, Place, Relays};
 use crate::lines::{read_lines, read_scpi_lines};
-use crate::rack::{Groups, Modbus, Place, Relays};
 use crate::usual::{device_at, number_or, wanted_text};
 use std::alloc::Global;
 use toml::Table;
@@ -21,7 +22,8 @@ use toml::Table;
 #[tactic(auto, unfolding(crate::specs::Cards::groups_of))]
 pub fn read_groups(alloc: Global, table: &Table, channels: u32) -> Result<Groups, ReadError>
     requires { (1 ≤ channels) × (channels ≤ most_channels) }
-    ensures { Gives (λ g. g.numbers.items) result (groups_of channels (table_view table.now)) }
+    ensures given { Gives (λ g. g.numbers.items) result (groups_of channels (table_view table.now)) }
+    ensures each { IfOk result (λ g. length g.numbers.items ≡ channels) }
 {
     let group = number(alloc, table, Key::Group, 0, 255)?;
     let groups = groups(alloc, table, Key::Groups)?;
@@ -36,7 +38,9 @@ fn choose_groups(
 ) -> Result<Groups, ReadError>
     requires channels { (1 ≤ channels) × (channels ≤ most_channels) }
     requires group { IfSome group (λ g. g ≤ 255) }
-    ensures { Gives (λ g. g.numbers.items) result (chosen_groups channels group (option_map (λ v. v.items) groups)) }
+    ensures given { Gives (λ g. g.numbers.items) result
+        (chosen_groups channels group (option_map (λ v. v.items) groups)) }
+    ensures each { IfOk result (λ g. length g.numbers.items ≡ channels) }
 {
     let size = channels as usize;
     let numbers = match (group, groups) {
@@ -67,7 +71,8 @@ pub fn read_behind(
     channels: u32,
 ) -> Result<Relays, ReadError>
     requires { (1 ≤ channels) × (channels ≤ most_channels) }
-    ensures { Gives relays_seen result (behind_of form channels (table_view table.now)) }
+    ensures given { Gives relays_seen result (behind_of form channels (table_view table.now)) }
+    ensures coils { IfOk result (HasCoils channels) }
 {
     match form {
         RelayForm::Simulated => {
@@ -114,7 +119,9 @@ fn read_modbus(
 ) -> Result<Modbus, ReadError>
     requires channels { (1 ≤ channels) × (channels ≤ most_channels) }
     requires units { (units.0 ≤ 1) × (1 ≤ units.1) × (units.1 ≤ 255) }
-    ensures { Gives modbus_seen result (modbus_of (place_seen place) units.0 units.1 channels (table_view table.now)) }
+    ensures given { Gives modbus_seen result
+        (modbus_of (place_seen place) units.0 units.1 channels (table_view table.now)) }
+    ensures coils { IfOk result (λ m. m.first_coil + channels ≤ 65536) }
 {
     let limit_ms = number_or(alloc, table, Key::LimitMs, 10, 60_000, 500)?;
     let unit = number_or(alloc, table, Key::UnitIdentifier, units.0, units.1, 1)? as u8;
@@ -137,7 +144,8 @@ fn read_modbus(
 fn check_coils(alloc: Global, channels: u32, first: u32) -> Result<u16, ReadError>
     requires channels { (1 ≤ channels) × (channels ≤ most_channels) }
     requires first { first ≤ 65535 }
-    ensures { Gives (λ n. n) result (coils_from channels first) }
+    ensures given { Gives (λ n. n) result (coils_from channels first) }
+    ensures coils { IfOk result (λ n. n + channels ≤ 65536) }
 {
     if first + channels > 65_536 {
         return Err(ReadError::Fault(Cause::Coil(first + channels - 1), String::new(alloc)));

@@ -11,7 +11,7 @@ ghost use Rattle.sw_rack.specs.Seen.{place_seen, texts_seen};
 use crate::cause::{Cause, ReadError};
 use crate::fields::{number, text, texts};
 use crate::key::Key;
-use crate::rack::Place;
+use crate::kind::Place;
 use std::alloc::{AllocError, Global};
 use toml::Table;
 

@@ -243,7 +243,7 @@ fn faults_of_a_board(rt: HostRuntime) -> Result<(), Fail> {
             alloc,
             "modbus-tcp",
             "address = \"a:1\"\nfirst_coil = 65530\n",
-            "line 7: slot 1: the last channel's coil would be 65537, above 65535"
+            "line 7: slot 1: `first_coil`: the last channel's coil would be 65537, above 65535"
         )
     );
     assert!(rt;

@@ -20,7 +20,7 @@ use sw_workers::Tcp;
 /// How long a door rests after a connection that failed, in milliseconds.
 const REST_MS: u64 = 10;
 
-/// For how many milliseconds after a remark on a failed connection it makes no other.
+/// For how many milliseconds after it has told of a connection that failed it tells of no other.
 const QUIET_MS: u128 = 1_000;
 
 /// What a door waits for.
@@ -32,9 +32,9 @@ enum Coming {
     End { is_at_once: bool },
 }
 
-/// A listener, and the number of connections that came to it, failed ones too. Where it has an input, it takes no
-/// connection after that has ended or failed; a line `abort` on it is an order, any other is ignored. A log has what
-/// comes and goes.
+/// A listener, and how many connections came to it, those among them that failed. Where it has an input, no connection
+/// is taken after that has ended or failed; of what comes from it before, lines `abort` are orders, and all else is let
+/// go. What comes and goes is told to a log.
 #[derive(Drop)]
 pub struct Door<'a, W: Wait + Clock + Copy + Drop, I: Read + AsRawFd + Drop, L: Log + Copy + Drop> {
     rt: W,
@@ -43,11 +43,11 @@ pub struct Door<'a, W: Wait + Clock + Copy + Drop, I: Read + AsRawFd + Drop, L: 
     input: Option<I>,
     orders: Orders,
     log: L,
-    /// An abort was asked for, and is not in the log yet: it is done by the time the next connection is asked for.
+    /// An abort was asked for, and not told yet: it is done where the next connection is asked for.
     is_aborting: bool,
-    /// It has not waited yet.
+    /// Nothing was waited for yet.
     is_new: bool,
-    /// When it made its last remark on a failed connection.
+    /// When a connection failed that was told of.
     told_at: Option<Instant>,
     pub taken: u32,
     pub is_over: bool,
@@ -59,7 +59,7 @@ impl<'a, W: Wait + Clock + Copy + Drop, I: Read + AsRawFd + Drop, L: Log + Copy 
     I,
     L,
 > {
-    /// A door to which no connection has come.
+    /// One that no connection came to yet.
     pub fn new(rt: W, alloc: Global, listener: &'a TcpListener, input: Option<I>, log: L) -> Self
         ensures { (result.taken ≡ 0) × (result.is_over ≡ false) }
     {
@@ -78,7 +78,7 @@ impl<'a, W: Wait + Clock + Copy + Drop, I: Read + AsRawFd + Drop, L: Log + Copy 
         }
     }
 
-    /// Remarks on a failed connection, once a second at most, and rests for a moment.
+    /// Tells of a connection that failed, once a second at most, and rests for a moment.
     fn rest(&mut self)
         ensures { self.new.taken ≡ self.old.taken }
     {
@@ -159,7 +159,8 @@ impl<
     }
 }
 
-/// Waits until a connection, a line `abort` or the end of the input comes. `is_new`: this is the first wait.
+/// Waits until a connection comes, a line `abort`, or the end of the input. `is_new` tells whether nothing was waited
+/// for yet.
 fn await_coming<W: Wait + Clock, I: Read + AsRawFd>(
     rt: &W,
     listener: &TcpListener,
@@ -185,7 +186,8 @@ fn await_coming<W: Wait + Clock, I: Read + AsRawFd>(
     unreachable!()
 }
 
-/// Waits until one of the two has something, for `ms` milliseconds at most, without a limit for -1. Answers which has.
+/// Waits until one of them has something, for so many milliseconds, or as long as it takes where these are -1, and tells
+/// which of both.
 fn look<C: Clock>(rt: &C, first: RawFd, second: RawFd, ms: i32) -> (bool, bool) {
     let mut looks = [
         pollfd {
@@ -213,7 +215,7 @@ enum Heard {
     Other,
 }
 
-/// Reads what the input has, if anything: a line `abort`, its end or failure, or what is ignored.
+/// Takes what the input has, if anything: a line `abort`, its end or its failure, or what is let go.
 fn hear<I: Read>(input: &mut I, orders: &mut Orders, has_input: bool) -> Heard {
     if !has_input {
         return Heard::Other;

@@ -21,8 +21,7 @@ pub fn talk_is_determined()
 
 /// A law: over a mainframe the message, the macros, what is measured and what comes of the cards determine what is
 /// written, the macros after it and the desk that is left but for its room, where no growth is refused. What comes of
-/// the cards: in which calls one fails, how often each has failed after such a call, and whether a card that is asked
-/// says that it is sure of its relays.
+/// the cards: in which calls one fails, and how often each has failed after such a call.
 pub fn core_talk_is_determined()
     ensures { CoreTalkIsDetermined }
 {

@@ -37,10 +37,6 @@ impl Driver for Recorder {
         self.coils.drive(ch, on)
     }
 
-    fn is_sure(&self) -> bool {
-        true
-    }
-
     fn cut(&mut self) {
         self.coils.cut();
     }

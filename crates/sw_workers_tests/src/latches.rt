@@ -106,10 +106,6 @@ impl<D: Driver, C: Clock + Drop> Driver for LatchedDriver<D, C> {
         self.driver.drive(ch, on)
     }
 
-    fn is_sure(&self) -> bool {
-        true
-    }
-
     fn cut(&mut self) {
         self.driver.cut();
     }
