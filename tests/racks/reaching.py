@@ -5,7 +5,7 @@ import threading
 import tty
 
 from support.boards import LineBoard, bench, rack_file
-from support.checking import same
+from support.checking import PATIENCE, same, wait_until_same
 from support.process import ANSWERED
 
 LINES = '''
@@ -33,7 +33,7 @@ def rack_reaches_and_moves_nothing(program, folder):
             f"slot 4: meter, scpi at {meter.address}: reached\n"]).encode())
         same("on", board.on(), [2])
         same("what the board was asked", {function for function, _, _ in board.asked}, {1})
-        same("what the meter was sent", meter.asked, ["*RST", "CONF:VOLT:DC 10"])
+        wait_until_same("what the meter was sent", lambda: meter.asked, ["*RST", "CONF:VOLT:DC 10"], PATIENCE)
 
 
 def rack_reaches_the_others_too(program, folder):
