@@ -9,13 +9,14 @@
 `fn:` is the function, below its modules, whose contract has to refuse the edit. `old:` stands once in the file, and
 `new:` in its place; each is the rest of its line behind one space. A further pair applies to what those before it made,
 in the same file up to the next `file:`. An edit without `fn:`, as one of a constant, may be refused by any function.
+A block with the line `always:` is tried by each gate, whatever is recorded (wrong/always).
 An edit of a definition (`file: specs/..`) turns code and definition alike, and its `fn:` is the law that refuses it.
 """
 import os
 import re
 
 NAME = re.compile(r"\[([a-z0-9_]+)\]")
-LINE = re.compile(r"(fn|file|old|new):(?: (.*))?")
+LINE = re.compile(r"(fn|file|old|new|always):(?: (.*))?")
 
 
 class Edit:
@@ -24,6 +25,7 @@ class Edit:
     def __init__(self, crate, name, line):
         self.crate, self.name, self.line = crate, name, line
         self.function, self.pairs, self.fault = None, [], None
+        self.is_always = False
         self.file = self.old = None
 
     def label(self):
@@ -41,6 +43,10 @@ class Edit:
             self.old = None
         elif self.old is not None:
             return f"`{key}:` where the line `new:` of the text before it is missing"
+        elif key == "always":
+            if text:
+                return "`always:` with a text behind it"
+            self.is_always = True
         elif key == "fn" and (self.function or not text):
             return "a second `fn:`" if self.function else "`fn:` without a function"
         elif key == "fn":

@@ -196,7 +196,8 @@ pub fn program_layout(alloc: Global) -> Result<Layout, AllocError>
     Ok(Layout::new(slots))
 }
 
-fn fault_name(fault: ListFault) -> &'static str
+/// A fault's name.
+pub fn fault_name(fault: ListFault) -> &'static str
     ensures { result.now ≡ fault_name fault }
 {
     match fault {

@@ -1,3 +1,4 @@
+pub mod SetupLemmas
 mod RowsLemmas
 mod HardwareLemmas
 mod CallsLemmas

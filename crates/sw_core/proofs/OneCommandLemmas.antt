@@ -7,7 +7,7 @@ use Rattle.sw_base.specs.declared.error.ScpiError.TheVariants.{OutOfMemory}
 use Rattle.std.specs.List.{join_with_byte}
 use Rattle.sw_base.specs.Reading.{reading_text}
 use Rattle.sw_base.specs.declared.reading.Reading.{Reading}
-use Rattle.sw_trigger.specs.Settings.{SettingsSeen}
+use Rattle.sw_verify.specs.declared.setup.Setup.{Setup}
 use Rattle.sw_status.specs.StatusModel.{StatusSeen}
 use Rattle.sw_cage.specs.Accounts.{Accounts}
 use Rattle.sw_cage.specs.Change.{Sets}
@@ -91,7 +91,7 @@ pub done_once : (after : Panel) (f f' : Bool) (a a' : SessionAnswer) (q q' : Pan
 done_once after f f' (Done None) (Done None) q q' h k = (refl, both after q q' h.1 k.1)
 done_once after f f' a a' q q' h k = absurd (assumption (h, k))
 
-pub setting_once : (p : Panel) (Fits : Type 0) (error : ScpiError) (setup : SettingsSeen) (f f' : Bool) (a a' : SessionAnswer) (q q' : Panel)
+pub setting_once : (p : Panel) (Fits : Type 0) (error : ScpiError) (setup : Setup) (f f' : Bool) (a a' : SessionAnswer) (q q' : Panel)
     → StepSetting p Fits error setup f a q → StepSetting p Fits error setup f' a' q' → IsOnce a a' q q'
 setting_once p Fits error setup f f' (Done None) (Done None) q q' h k = (refl, h.2 ∙ sym k.2)
 setting_once p Fits error setup f f' (Done None) (Refused e) q q' h k = absurd (k.1 h.1)
@@ -137,7 +137,7 @@ alone_once (TellsText text) p f f' a a' q q' n m s h k = text_once p (text p) p.
 alone_once (TellsReadings readings) p f f' a a' q q' n m s h k = readings_once (readings p) p f f' a a' q q' n m h k
 alone_once (ReadsOut text after) p f f' a a' q q' n m s h k = text_once p (text p.status) (after p.status) f f' a a' q q' n m h k
 alone_once (SetsStatus after) p f f' a a' q q' n m s h k = done_once (record p { status = after p.status }) f f' a a' q q' h k
-alone_once (SetsUp Fits error after) p f f' a a' q q' n m s h k = setting_once p Fits error (after p.settings) f f' a a' q q' h k
+alone_once (SetsUp Fits error after) p f f' a a' q q' n m s h k = setting_once p (Fits p.settings) error (after p.settings) f f' a a' q q' h k
 alone_once (ClosesListed chans) p f f' a a' q q' n m s h k = close_once p chans f f' a a' q q' n m h k
 alone_once (OpensListed chans) p f f' a a' q q' n m s h k = open_once p chans f f' a a' q q' n m h k
 alone_once (TellsHardware there text) p f f' a a' q q' n m s h k = hardware_once p (there p) (text p) f f' a a' q q' n m h k

@@ -14,7 +14,7 @@ use Rattle.sw_lex.specs.declared.command.Command.{Command}
 use Rattle.sw_lex.specs.declared.command.Plain.{Plain}
 use Rattle.sw_lex.specs.declared.command.Channels.{Channels}
 use Rattle.sw_lex.specs.declared.command.SlotQuery.{SlotQuery}
-use Rattle.sw_trigger.specs.Settings.{SettingsSeen}
+use Rattle.sw_verify.specs.declared.setup.Setup.{Setup}
 use Rattle.sw_status.specs.StatusModel.{StatusSeen}
 use Rattle.sw_verify.specs.declared.snapshot.Snapshot.{Snapshot}
 use Rattle.sw_cage.specs.Cage.{ScanSeen, CageSeen, safe_state}
@@ -91,7 +91,7 @@ keep_done : (p after : Panel) (f : Bool) (a : SessionAnswer) (q : Panel) → IsK
 keep_done p after f (Done None) q k h = keep_as p q after h.1 k
 keep_done p after f a q k h = absurd h
 
-keep_setting : (p : Panel) (Fits : Type 0) (error : ScpiError) (setup : SettingsSeen) (f : Bool) (a : SessionAnswer) (q : Panel)
+keep_setting : (p : Panel) (Fits : Type 0) (error : ScpiError) (setup : Setup) (f : Bool) (a : SessionAnswer) (q : Panel)
     → StepSetting p Fits error setup f a q → IsKeeping p q
 keep_setting p Fits error setup f (Done None) q h = keep_as p q (record p { settings = setup }) h.2 refl
 keep_setting p Fits error setup f (Refused e) q h = keep_is p q h.3
@@ -130,7 +130,7 @@ keep_alone (TellsText text) p f a q k h = keep_text p (text p) p.status f a q h
 keep_alone (TellsReadings readings) p f a q k h = keep_readings (readings p) p f a q h
 keep_alone (ReadsOut text after) p f a q k h = keep_text p (text p.status) (after p.status) f a q h
 keep_alone (SetsStatus after) p f a q k h = keep_done p (record p { status = after p.status }) f a q refl h
-keep_alone (SetsUp Fits error after) p f a q k h = keep_setting p Fits error (after p.settings) f a q h
+keep_alone (SetsUp Fits error after) p f a q k h = keep_setting p (Fits p.settings) error (after p.settings) f a q h
 keep_alone (ClosesListed chans) p f a q k h = keep_close p chans f a q h
 keep_alone (OpensListed chans) p f a q k h = keep_open p chans f a q h
 keep_alone (TellsHardware there text) p f a q k h = keep_hardware p (there p) (text p) f a q h

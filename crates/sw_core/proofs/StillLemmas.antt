@@ -13,7 +13,7 @@ use Rattle.sw_lex.specs.declared.command.Command.{Command}
 use Rattle.sw_lex.specs.declared.command.SlotQuery.{SlotQuery}
 use Rattle.sw_lex.specs.declared.command.Plain.{Plain}
 use Rattle.sw_lex.specs.declared.command.Channels.{Channels}
-use Rattle.sw_trigger.specs.Settings.{SettingsSeen}
+use Rattle.sw_verify.specs.declared.setup.Setup.{Setup}
 use Rattle.sw_status.specs.StatusModel.{StatusSeen}
 use Rattle.sw_verify.specs.Sound.{effect}
 use Rattle.sw_cage.specs.Cage.{CageSeen}
@@ -155,7 +155,7 @@ still_done : {off : Bool} (p after : Panel) (f : Bool) (a : SessionAnswer) (q : 
 still_done {off} p after f (Done None) q s h = subst (λ (x : Panel). IsStill off p x) (sym h.1) (s refl)
 still_done p after f a q s h = absurd h
 
-still_setting : {off : Bool} (p : Panel) (Fits : Type 0) (error : ScpiError) (setup : SettingsSeen) (f : Bool) (a : SessionAnswer) (q : Panel)
+still_setting : {off : Bool} (p : Panel) (Fits : Type 0) (error : ScpiError) (setup : Setup) (f : Bool) (a : SessionAnswer) (q : Panel)
     → StepSetting p Fits error setup f a q → IsStill off p q
 still_setting p Fits error setup f (Done None) q h = inl (ap (λ (x : Panel). x.cage) h.2)
 still_setting p Fits error setup f (Refused e) q h = still_as p q h.3
@@ -180,7 +180,7 @@ still_alone ask (TellsText text) p f a q n h = still_text p (text p) p.status f 
 still_alone ask (TellsReadings readings) p f a q n h = still_readings (readings p) p f a q h
 still_alone ask (ReadsOut text after) p f a q n h = still_text p (text p.status) (after p.status) f a q h
 still_alone ask (SetsStatus after) p f a q n h = still_done p (record p { status = after p.status }) f a q (λ e. inl refl) h
-still_alone ask (SetsUp Fits error after) p f a q n h = still_setting p Fits error (after p.settings) f a q h
+still_alone ask (SetsUp Fits error after) p f a q n h = still_setting p (Fits p.settings) error (after p.settings) f a q h
 still_alone ask (ClosesListed chans) p f a q n h = still_close p chans f a q n h
 still_alone ask (OpensListed chans) p f a q n h = still_open p chans f a q n h
 still_alone ask (TellsHardware there text) p f a q n h = still_hardware p (there p) (text p) f a q h

@@ -13,7 +13,7 @@ use Rattle.sw_lex.specs.declared.command.Command.{Command}
 use Rattle.sw_lex.specs.declared.command.SlotQuery.{SlotQuery}
 use Rattle.sw_lex.specs.declared.command.Plain.{Plain}
 use Rattle.sw_lex.specs.declared.command.Channels.{Channels}
-use Rattle.sw_trigger.specs.Settings.{SettingsSeen}
+use Rattle.sw_verify.specs.declared.setup.Setup.{Setup}
 use Rattle.sw_status.specs.StatusModel.{StatusSeen}
 use Rattle.sw_cage.specs.TakenSeen.{TakenSeen, SaysIgnored, SaysWaits, SaysPause, SaysJob, SaysEnded, SaysFault}
 use Rattle.sw_cage.specs.declared.taken.Happening.{Happening}
@@ -129,7 +129,7 @@ leaves_done : {ends : Bool} (p after : Panel) (f : Bool) (a : SessionAnswer) (q 
 leaves_done p after f (Done None) q s h = leaves_as p q after h.1 s
 leaves_done p after f a q s h = absurd h
 
-leaves_setting : {ends : Bool} (p : Panel) (Fits : Type 0) (error : ScpiError) (setup : SettingsSeen) (f : Bool) (a : SessionAnswer) (q : Panel)
+leaves_setting : {ends : Bool} (p : Panel) (Fits : Type 0) (error : ScpiError) (setup : Setup) (f : Bool) (a : SessionAnswer) (q : Panel)
     → StepSetting p Fits error setup f a q → Leaves ends p q
 leaves_setting p Fits error setup f (Done None) q h = leaves_by p q (ap (λ (x : Panel). x.sessions) h.2) (ap is_running h.2)
 leaves_setting p Fits error setup f (Refused e) q h = leaves_by p q (ap (λ (x : Panel). x.sessions) h.3) (ap is_running h.3)
@@ -148,7 +148,7 @@ leaves_alone (TellsText text) p f a q n h = leaves_text p (text p) p.status f a 
 leaves_alone (TellsReadings readings) p f a q n h = leaves_readings (readings p) p f a q h
 leaves_alone (ReadsOut text after) p f a q n h = leaves_text p (text p.status) (after p.status) f a q h
 leaves_alone (SetsStatus after) p f a q n h = leaves_done p (record p { status = after p.status }) f a q (record { seats = refl; scan = λ e i. i }) h
-leaves_alone (SetsUp Fits error after) p f a q n h = leaves_setting p Fits error (after p.settings) f a q h
+leaves_alone (SetsUp Fits error after) p f a q n h = leaves_setting p (Fits p.settings) error (after p.settings) f a q h
 leaves_alone (ClosesListed chans) p f a q n h = leaves_close p chans f a q h
 leaves_alone (OpensListed chans) p f a q n h = leaves_open p chans f a q h
 leaves_alone (TellsHardware there text) p f a q n h = leaves_hardware p (there p) (text p) f a q h

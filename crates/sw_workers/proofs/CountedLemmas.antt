@@ -14,7 +14,7 @@ use Rattle.sw_lex.specs.declared.command.Command.{Command}
 use Rattle.sw_lex.specs.declared.command.SlotQuery.{SlotQuery}
 use Rattle.sw_lex.specs.declared.command.Plain.{Plain}
 use Rattle.sw_lex.specs.declared.command.Channels.{Channels}
-use Rattle.sw_trigger.specs.Settings.{SettingsSeen}
+use Rattle.sw_verify.specs.declared.setup.Setup.{Setup}
 use Rattle.sw_status.specs.StatusModel.{StatusSeen}
 use Rattle.sw_verify.specs.declared.snapshot.Snapshot.{Snapshot}
 use Rattle.sw_cage.specs.Work.{FinishedSeen}
@@ -125,7 +125,7 @@ same_done : (p after : Panel) (f : Bool) (a : SessionAnswer) (q : Panel) → IsS
 same_done p after f (Done None) q s h = same_as p q after h.1 s
 same_done p after f a q s h = absurd h
 
-same_setting : (p : Panel) (Fits : Type 0) (error : ScpiError) (setup : SettingsSeen) (f : Bool) (a : SessionAnswer) (q : Panel)
+same_setting : (p : Panel) (Fits : Type 0) (error : ScpiError) (setup : Setup) (f : Bool) (a : SessionAnswer) (q : Panel)
     → StepSetting p Fits error setup f a q → IsSame p q
 same_setting p Fits error setup f (Done None) q h = ap (λ (x : Panel). x.events) h.2
 same_setting p Fits error setup f (Refused e) q h = ap (λ (x : Panel). x.events) h.3
@@ -144,7 +144,7 @@ same_alone (TellsText text) p f a q n h = same_text p (text p) p.status f a q h
 same_alone (TellsReadings readings) p f a q n h = same_readings (readings p) p f a q h
 same_alone (ReadsOut text after) p f a q n h = same_text p (text p.status) (after p.status) f a q h
 same_alone (SetsStatus after) p f a q n h = same_done p (record p { status = after p.status }) f a q refl h
-same_alone (SetsUp Fits error after) p f a q n h = same_setting p Fits error (after p.settings) f a q h
+same_alone (SetsUp Fits error after) p f a q n h = same_setting p (Fits p.settings) error (after p.settings) f a q h
 same_alone (ClosesListed chans) p f a q n h = same_close p chans f a q h
 same_alone (OpensListed chans) p f a q n h = same_open p chans f a q h
 same_alone (TellsHardware there text) p f a q n h = same_hardware p (there p) (text p) f a q h

@@ -8,7 +8,7 @@ use Rattle.sw_base.specs.declared.error.ScpiError.TheVariants.{UndefinedHeader, 
 use Rattle.std.specs.Prelude.{map}
 use Rattle.std.specs.List.{join_with_byte}
 use Rattle.sw_base.specs.Reading.{reading_text}
-use Rattle.sw_trigger.specs.Settings.{SettingsSeen}
+use Rattle.sw_verify.specs.declared.setup.Setup.{Setup}
 use Rattle.sw_status.specs.StatusModel.{StatusSeen}
 use Rattle.sw_verify.specs.declared.snapshot.Snapshot.{Snapshot}
 use Rattle.sw_cage.specs.Work.{FinishedSeen}
@@ -87,7 +87,7 @@ stays_done : (p after : Panel) (f : Bool) (a : SessionAnswer) (q : Panel) → St
 stays_done p after f (Done text) q h = tt
 stays_done p after f a q h = absurd h
 
-stays_setting : (p : Panel) (Fits : Type 0) (error : ScpiError) (setup : SettingsSeen) (f : Bool) (a : SessionAnswer) (q : Panel)
+stays_setting : (p : Panel) (Fits : Type 0) (error : ScpiError) (setup : Setup) (f : Bool) (a : SessionAnswer) (q : Panel)
     → StepSetting p Fits error setup f a q → Stays (is_session_event a) p q
 stays_setting p Fits error setup f (Done text) q h = tt
 stays_setting p Fits error setup f (Refused e) q h = tt
@@ -106,7 +106,7 @@ stays_alone (TellsText text) p f a q h = stays_text p (text p) p.status f a q h
 stays_alone (TellsReadings readings) p f a q h = stays_readings (readings p) p f a q h
 stays_alone (ReadsOut text after) p f a q h = stays_text p (text p.status) (after p.status) f a q h
 stays_alone (SetsStatus after) p f a q h = stays_done p (record p { status = after p.status }) f a q h
-stays_alone (SetsUp Fits error after) p f a q h = stays_setting p Fits error (after p.settings) f a q h
+stays_alone (SetsUp Fits error after) p f a q h = stays_setting p (Fits p.settings) error (after p.settings) f a q h
 stays_alone (ClosesListed chans) p f a q h = stays_close p chans f a q h
 stays_alone (OpensListed chans) p f a q h = stays_open p chans f a q h
 stays_alone (TellsHardware there text) p f a q h = stays_hardware p (there p) (text p) f a q h
