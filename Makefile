@@ -3,7 +3,7 @@
 #             which takes about a minute to build the first time; its first line says which of the two.
 # make try:   opens the client's terminal before the unproved program, whether or not the proved one is there.
 # make serve: serves HiSLIP clients on port 4880 of this machine by the proved program, until Ctrl-C; PORT=4881: on that
-#             port; ADDRESS=192.168.1.5: at that address, for all that reach it.
+#             port; ADDRESS=192.168.1.5: at that address, for all that reach it; RACK=rack.toml: the cards of that file.
 # make try-serve: likewise by the unproved program.
 # make install: copies the proved program, the client, the service and its unit below /usr/local, with a manual page of
 #             the commands; PREFIX=/opt/rack: below that folder; DESTDIR=image: into that folder as if it were the root.
@@ -22,7 +22,7 @@ PREFIX ?= /usr/local
 LIBRARY = $(PREFIX)/lib/mainframe
 UNITS = $(PREFIX)/lib/systemd/system
 MANUAL = $(PREFIX)/share/man/man1
-AT = --address $(or $(ADDRESS),127.0.0.1) --port $(or $(PORT),4880)
+AT = --address $(or $(ADDRESS),127.0.0.1) --port $(or $(PORT),4880) $(if $(RACK),--rack $(RACK))
 BUILT = crates/mainframe/out/mainframe
 
 .PHONY: help prove run serve try try-serve install test tests wrong check bench bench-serve soak

@@ -1,10 +1,10 @@
 #!/usr/bin/env python3
 """A page that shows the cage of `mainframe serve` while it works, by Python's standard library alone:
 
-    examples/panel.py [--port P] [--host H] [--page Q] [--cards SLOT=KIND:CHANNELS[:GROUP],..]
+    examples/panel.py [--port P] [--host H] [--page Q]
 
-Serves http://127.0.0.1:8480/, to this machine alone. It shows slots and channels with closed relays lit and groups
-coloured, what the scan waits for, the readings with their channels, the number of errors in the queue, and the status
+Serves http://127.0.0.1:8480/, to this machine alone. It asks which cards there are, and shows slots and channels with
+closed relays lit and groups coloured, cards that can't tell how their relays stand, what the scan waits for, the readings with their channels, the number of errors in the queue, and the status
 byte, twice a second. The panel asks through a session of its own, by queries that change nothing, empty nothing and
 queue no error. The page has one button, which takes the errors from the queue and shows their texts. While another
 session holds the lock, the page says so and shows what was seen last.
@@ -25,7 +25,7 @@ from typing import Any, NamedTuple
 from swm import PORT, Session, SessionError
 
 PAGE_PORT = 8480
-CARDS = "1=mux:20:1,2=matrix:16,3=mux:10:1,4=meter"  # the program's cage
+SLOTS = range(1, 17)
 PERIOD = 0.5  # seconds between two looks
 PATIENCE = 1_000  # milliseconds that a look waits for an answer
 MOST_PLOTTED = 1_000  # readings, the last ones
@@ -43,18 +43,17 @@ class Card(NamedTuple):
     """What is drawn of a slot."""
     slot: int
     kind: str
-    channels: int
-    group: int
+    groups: list[int]  # of each channel; a meter has none
 
 
-def cards_of(text: str) -> Iterator[Card]:
-    """The cards that an option names: 1=mux:20:1 is slot 1 with a mux of 20 channels, all of group 1."""
-    for part in text.split(","):
-        match = re.fullmatch(r"(\d+)=(\w+)(?::(\d+))?(?::(\d+))?", part.strip())
-        if not match:
-            raise argparse.ArgumentTypeError(f"{part!r} is no SLOT=KIND:CHANNELS:GROUP")
-        slot, kind, channels, group = match.groups()
-        yield Card(int(slot), kind, int(channels or 0), int(group or 0))
+def cards_in(session: Session) -> Iterator[Card]:
+    """The cards of the cage."""
+    kinds = session.query(";".join(f":SYST:CTYP? {slot}" for slot in SLOTS)).split(";")
+    for slot, kind in zip(SLOTS, (fields.split(",")[1] for fields in kinds)):
+        if kind.startswith("RELAY"):
+            yield Card(slot, kind, [int(group) for group in session.query(f":SYST:CTYP:GRO? {slot}").split(",")])
+        elif kind != "0":
+            yield Card(slot, kind, [])
 
 
 def doing(condition: int, sources: list[str]) -> str:
@@ -110,10 +109,14 @@ class Watch:
             time.sleep(PERIOD)
 
     def _follow(self, session: Session) -> None:
+        cards: list[Card] = []
         while True:
             status = session.read_stb()
             try:
-                self._look(session, status)
+                if not cards:
+                    cards = list(cards_in(session))
+                    self._tell(cards=[card._asdict() for card in cards])
+                self._look(session, status, [card.slot for card in cards if card.groups])
             except SessionError as fault:
                 if "in time" not in fault.came:
                     raise
@@ -122,14 +125,17 @@ class Watch:
             session.requests.clear()
             time.sleep(PERIOD)
 
-    def _look(self, session: Session, status: int) -> None:
+    def _look(self, session: Session, status: int, slots: list[int]) -> None:
         if self._takes_errors.is_set():
             self._tell(taken=[*self.seen()["taken"], *session.errors()][-MOST_TAKEN:])
             self._takes_errors.clear()
-        closed, operation, questionable, errors, held, *sources = session.query(LOOK).split(";")
+        asked = LOOK + "".join(f";:SYST:CTYP:STAT? {slot}" for slot in slots)
+        closed, operation, questionable, errors, held, *told = session.query(asked).split(";")
+        sources, states = told[:len(LAYERS)], told[len(LAYERS):]
         if int(held) != self._fetched.held:
             self._fetched = self._fetch(session) if int(held) else Readings()
         self._tell(state="connected", closed=re.findall(r"\d+!\d+", closed), status=status & ~0x50, errors=int(errors),
+                   unsure=[slot for slot, state in zip(slots, states) if state == "UNS"],
                    doing=doing(int(operation), sources), fault=bool(int(questionable) & 512), count=self._fetched.held,
                    readings=self._fetched.values, channels=self._fetched.channels)
 
@@ -162,7 +168,7 @@ body { font: 16px sans-serif; margin: 2em; background: #fafafa; color: #222 }
 .ch { display: inline-block; width: 2.1em; margin: 1px; padding: .2em 0; text-align: center; border-radius: 4px;
       border: 2px solid var(--group); background: #fff }
 .closed { background: #d62; color: #fff; font-weight: bold }
-#state.bad { color: #b00 } dl { display: grid; grid-template-columns: 12em auto } dd { margin: 0 }
+.unsure .ch { opacity: .4 } .unsure b, #state.bad { color: #b00 } dl { display: grid; grid-template-columns: 12em auto } dd { margin: 0 }
 ol { margin: 0; padding: 0; list-style: none }
 #graph { display: grid; grid-template-columns: 9em 1fr; max-width: 60em; column-gap: .5em }
 svg { width: 100%; height: 10em; background: #fff; border: 1px solid #ccc }
@@ -181,21 +187,28 @@ table { margin-top: 1em } th, td { text-align: left; padding-right: 2em; font-we
 <table><thead><tr><th>reading</th><th>channel, by the list set</th><th>V</th></tr></thead><tbody id="latest"></tbody>
 </table>
 <script>
-const CARDS = @CARDS@, COLOURS = ["#bbb", "#06c", "#284", "#a3a", "#c60", "#088", "#852", "#555"];
+const COLOURS = ["#bbb", "#06c", "#284", "#a3a", "#c60", "#088", "#852", "#555"];
 const put = (id, text) => { document.getElementById(id).textContent = text; };
-const cage = document.getElementById("cage");
-for (const card of CARDS) {
-  const row = document.createElement("div"), name = document.createElement("b");
-  row.className = "slot";
-  name.textContent = `${card.slot}: ${card.kind}` + (card.group ? `, group ${card.group}` : "");
-  row.append(name);
-  for (let ch = 1; ch <= card.channels; ch++) {
-    const cell = document.createElement("span");
-    cell.className = "ch"; cell.id = `${card.slot}!${ch}`; cell.textContent = ch;
-    cell.style.setProperty("--group", COLOURS[card.group % COLOURS.length]);
-    row.append(cell);
+function draw(card) {
+  const cells = card.groups.map((group, before) => {
+    const cell = make("span", before + 1);
+    cell.className = "ch"; cell.id = `${card.slot}!${before + 1}`; cell.title = group ? `group ${group}` : "no group";
+    cell.style.setProperty("--group", COLOURS[group % COLOURS.length]);
+    return cell;
+  });
+  const row = make("div", "", make("b", ""), ...cells);
+  row.className = "slot"; row.dataset.slot = card.slot; row.dataset.kind = card.kind;
+  return row;
+}
+let drawn = "";
+function drawCage(cards, unsure) {
+  if (JSON.stringify(cards) !== drawn) fill("cage", cards.map(draw));
+  drawn = JSON.stringify(cards);
+  for (const row of document.querySelectorAll(".slot")) {
+    const isUnsure = unsure.includes(Number(row.dataset.slot));
+    row.classList.toggle("unsure", isUnsure);
+    row.firstChild.textContent = `${row.dataset.slot}: ${row.dataset.kind}` + (isUnsure ? ", unsure" : "");
   }
-  cage.append(row);
 }
 const fill = (id, items) => document.getElementById(id).replaceChildren(...items);
 function make(kind, text, ...inside) {
@@ -225,6 +238,7 @@ function show(seen) {
   const state = document.getElementById("state");
   state.className = seen.state === "connected" ? "" : "bad";
   put("state", seen.state);
+  drawCage(seen.cards || [], seen.unsure || []);
   const closed = new Set(seen.closed || []);
   for (const cell of document.querySelectorAll(".ch")) cell.classList.toggle("closed", closed.has(cell.id));
   for (const id of ["doing", "count", "errors", "status"]) put(id, seen[id] ?? "");
@@ -251,7 +265,7 @@ class Handler(http.server.BaseHTTPRequestHandler):
 
     def do_GET(self) -> None:
         if self.path == "/":
-            self._answer("text/html; charset=utf-8", self.server.page)
+            self._answer("text/html; charset=utf-8", PAGE)
         elif self.path == "/state":
             self._answer("application/json", json.dumps(self.server.watch.seen()))
         else:
@@ -281,9 +295,8 @@ class Panel(http.server.ThreadingHTTPServer):
     """The page, on loopback alone."""
     daemon_threads = True
 
-    def __init__(self, page_port: int, cards: list[Card], watch: Watch) -> None:
+    def __init__(self, page_port: int, watch: Watch) -> None:
         super().__init__(("127.0.0.1", page_port), Handler)
-        self.page = PAGE.replace("@CARDS@", json.dumps([card._asdict() for card in cards]))
         self.watch = watch
 
 
@@ -292,11 +305,9 @@ def main() -> int:
     options.add_argument("--port", type=int, default=PORT, help="of the mainframe")
     options.add_argument("--host", default="127.0.0.1", help="of the mainframe")
     options.add_argument("--page", type=int, default=PAGE_PORT, help="the port of the page")
-    options.add_argument("--cards", type=lambda text: list(cards_of(text)), default=list(cards_of(CARDS)),
-                         help=f"what is drawn, the program's cage where it isn't given: {CARDS}")
     words = options.parse_args()
     watch = Watch(words.port, words.host)
-    with Panel(words.page, words.cards, watch) as panel:
+    with Panel(words.page, watch) as panel:
         threading.Thread(target=watch.run, daemon=True).start()
         print(f"panel: http://127.0.0.1:{panel.server_port}/", flush=True)
         try:

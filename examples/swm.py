@@ -64,7 +64,8 @@ class SessionError(OSError):
 
 
 class ScanError(Exception):
-    """A scan was refused or broken off; `errors` has what was taken from the queue then."""
+    """A scan was refused or broken off; `errors` has what was taken from the queue then. `DIAG:SCAN:CHEC?` answers why
+    it would be refused now."""
 
     def __init__(self, errors: list[str]) -> None:
         super().__init__("; ".join(errors) or "the errors were taken by another client")
@@ -461,4 +462,6 @@ class Session:
 
 if __name__ == "__main__":
     from terminal import terminal
+    if len(sys.argv) > 3 or not all(word.isdecimal() for word in sys.argv[1:2]):
+        sys.exit("use: swm.py [PORT [HOST]]")
     sys.exit(terminal(*map(int, sys.argv[1:2]), *sys.argv[2:]))

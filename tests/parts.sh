@@ -1,7 +1,7 @@
 # Makes parts, and counts what their last lines tell; `gate` and `tests/run` take it up.
 # The parts of the tests, those first that find a fault the soonest. `+` joins those that are made at once, since they
 # mostly wait, and measure no time that is not many times as long as they need:
-PARTS="transcripts process documents building clients serving connections+crowds ends hostile growths"
+PARTS="transcripts process documents building clients serving racks connections+crowds ends hostile growths"
 passed=0
 failed=0
 lines=()

@@ -128,8 +128,14 @@ def help_lists_what_the_mainframe_tells(_):
             same("said", typed_into_the_client(port, b"help\n"), shown)
 
 
+def other_words_are_told_the_use(_):
+    for words in [["--help"], ["-1"], ["4880", "127.0.0.1", "more"]]:
+        done = subprocess.run([EXAMPLES / "swm.py", *words], capture_output=True, timeout=PATIENCE)
+        same("said", (done.returncode, done.stdout, done.stderr), (1, b"", b"use: swm.py [PORT [HOST]]\n"))
+
+
 CHECKS = [
     run_answers_at_a_terminal, the_client_answers_at_a_terminal, a_command_that_waits_is_given_up,
     the_client_tells_errors_at_once, the_client_leaves_the_errors_of_others, a_line_is_edited_and_found_again,
-    a_pipe_has_no_prompt, help_lists_what_the_mainframe_tells,
+    a_pipe_has_no_prompt, help_lists_what_the_mainframe_tells, other_words_are_told_the_use,
 ]

@@ -10,7 +10,8 @@ STUBS = [
     ('*RMC "1A"', b'-273,"Illegal macro label"'),
 ]
 # Answers that take no memory.
-PRINTED = rb'(\d+|\d+\.\d{6}|-?\d+,"[^"]*"|OPENBENCH,SWM8,0,1\.0|1999\.0|IMM|BUS|EXT|TIM|HOLD)[;\n]'
+PRINTED = rb'(\d+|\d+\.\d{6}|-?\d+,"[^"]*"|OPENBENCH,SWM8,0,1\.0|1999\.0|IMM|BUS|EXT|TIM|HOLD' \
+    rb'|OPENBENCH,0,0,0|SURE|UNS|EMPT)[;\n]'
 
 
 # ---- transcripts as units

@@ -6,7 +6,9 @@ from support.process import ANSWERED
 def help_is_told(program):
     for words, wanted in [
         (["--help"], [b"run", b"Answer each line of standard input on standard output", b"serve", b"--version"]),
-        (["run", "--help"], [b"--fuse <K>", b"Let the K-th closing of slot 1 fail, K from 1 to 1000000"]),
+        (["run", "--help"], [b"--fuse <K>", b"Let the K-th closing of slot 1 fail, K from 1 to 1000000", b"--rack <FILE>"]),
+        (["rack", "--help"], [b"<FILE>", b"reach each card; nothing moves"]),
+        (["off", "--help"], [b"--rack <FILE>", b"Switch off every relay"]),
         (["serve", "--help"], [b"--port <P>", b"Listen on port P, from 1 to 65535", b"4880",
                                b"--address <ADDRESS>", b"127.0.0.1", b"--until-end-of-input", b"--log"]),
         (["check", "--help"], [b"A listing is scan code as text", b"close S!C", b"ok bound B readings R"]),
@@ -31,6 +33,7 @@ def command_lines_are_refused(program):
         ["serve", "now"], ["serve", "--port"], ["serve", "--port", "0"], ["serve", "--port", "65536"],
         ["serve", "--port", "-1"], ["serve", "--port", "hislip"], ["serve", "--fuse", "1"],
         ["serve", "--address"], ["serve", "--address", "localhost"], ["serve", "--address", "127.0.0.1:80"],
+        ["rack"], ["rack", "a", "b"], ["off"], ["off", "--rack"], ["run", "--fuse", "1", "--rack", "a"],
         ["serve", "--address", "1.2.3"], ["serve", "--log", "1"], ["serve", "--until-end-of-input", "1"],
     ]:
         done = program.run(words, b"*IDN?\n")

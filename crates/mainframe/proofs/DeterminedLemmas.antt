@@ -36,7 +36,7 @@ join_whole : (b : Bool) (p : Panel) (sid : Sid) (f : Bool) (q : Panel)
 join_whole true p sid f q s = s.unfailed
 join_whole false p sid f q s = s.acts.0
 
-join_unfailed : (p : Panel) (sid : Sid) (f : Bool) (q : Panel) → Step p (AskSession Ask.Join) f (SaysSession (Joined sid) None) q → f ≡ false
+pub join_unfailed : (p : Panel) (sid : Sid) (f : Bool) (q : Panel) → Step p (AskSession Ask.Join) f (SaysSession (Joined sid) None) q → f ≡ false
 join_unfailed p sid f q s = join_whole ((p.events == last_number) && not (acts_unnumbered (AskSession Ask.Join))) p sid f q s
 
 -- where none fails, nothing comes of the cards
@@ -47,7 +47,7 @@ take_once : StepIsDetermined → (p q q' : Panel) (o : PlacedCard) → Takes p o
 take_once law p q q' o s t =
     let same_failures = no_failures s.failed t.failed q.cage.cards q'.cage.cards (take_unfailed p o.slot o.card s.failed q s.step)
     (take_unfailed p o.slot o.card t.failed q' t.step) in
-    (law p q q' (AskInstall o.slot o.card) s.failed t.failed SaysInstalled SaysInstalled s.step t.step same_failures tt tt tt tt).1
+    (law p q q' (AskInstall o.slot o.card) s.failed t.failed SaysInstalled SaysInstalled s.step t.step same_failures refl tt tt tt tt).1
 
 offers_once : StepIsDetermined → (cards : List PlacedCard) (p p' q q' : Panel) → p ≡ p' → TakesCards p cards q → TakesCards p' cards q' → q ≡ q'
 offers_once law [] p p' q q' e is is' = is ∙ e ∙ sym is'
@@ -60,7 +60,7 @@ joined_once law sid sid' q q' j k =
     let same_failures = no_failures j.failed k.failed q.cage.cards q'.cage.cards (join_unfailed opening sid j.failed q j.step)
     (join_unfailed opening sid' k.failed q' k.step) in
     let r = law opening q q' (AskSession Ask.Join) j.failed k.failed (SaysSession (Joined sid) None) (SaysSession (Joined sid') None) j.step k.step
-    same_failures tt
+    same_failures refl tt
     tt tt tt in
     let e : SaysSession (Joined sid) None ≡ SaysSession (Joined sid') None = r.0 in
     (let s : sid ≡ sid' = cc in s, r.1)

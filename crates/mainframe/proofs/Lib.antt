@@ -2,9 +2,14 @@ mod KnownLemmas
 mod LinesLemmas
 mod KeptLemmas
 mod TurnLemmas
+mod WholeRunLemmas
 mod RunsLemmas
 mod StandLemmas
 mod DeterminedLemmas
 mod ListingsLemmas
 mod WelcomeLemmas
+mod RackLemmas
+mod RackLineLemmas
+mod RackWelcomeLemmas
+mod RackLayoutLemmas
 mod PiecesLemmas

@@ -8,18 +8,18 @@ use Rattle.sw_verify.specs.declared.refusal.Refusal.{Refusal}
 use Rattle.sw_verify.specs.declared.refusal.Refusal.TheVariants.{NoMemory}
 use Rattle.sw_verify.specs.Channels.{is_among}
 use Rattle.sw_verify.specs.Denied.{IsDenied}
-use Rattle.mainframe.specs.Listings.{program_layout, refused_line, Says}
+use Rattle.mainframe.specs.Listings.{refused_line, Says}
 
 pub said_refused : {J F : Type 0} (accepted : J → Bool) (line : J → List ℕ) (result : Result J F) (layout : Layout) (text : List ℕ) (code : Program)
-    (r : Refusal) → layout ≡ program_layout → code_in text ≡ Ok code → IsDenied layout (is_among []) most_points code r → r ≢ NoMemory
-    → IfOk result (λ j. line j ≡ refused_line r) → IfOk result (λ j. accepted j ≡ false) → IfOk result (λ j. Says (accepted j) text (line j))
-said_refused accepted line (Ok j) layout text code r here listed denied named told declined = subst (λ (a : Bool). Says a text (line j)) (sym declined)
+    (r : Refusal) → code_in text ≡ Ok code → IsDenied layout (is_among []) most_points code r → r ≢ NoMemory
+    → IfOk result (λ j. line j ≡ refused_line r) → IfOk result (λ j. accepted j ≡ false) → IfOk result (λ j. Says layout (accepted j) text (line j))
+said_refused accepted line (Ok j) layout text code r listed denied named told declined = subst (λ (a : Bool). Says layout a text (line j)) (sym declined)
     (inl (record {
       code = code;
       listed = listed;
       cause = r;
-      denied = subst (λ (l : Layout). IsDenied l (is_among []) most_points code r) here denied;
+      denied = denied;
       named = named;
       told = told;
     }))
-said_refused accepted line (Err fault) layout text code r here listed denied named told declined = tt
+said_refused accepted line (Err fault) layout text code r listed denied named told declined = tt

@@ -20,6 +20,8 @@ use Rattle.mainframe.specs.Kept.{CutsLine, ShowsLine, LosesFront}
 use Rattle.mainframe.specs.Turns.{Gathers, Stand, Streams, TakesTurns, IsOfReading}
 use Rattle.mainframe.proofs.TurnLemmas.{gathers-none, gathers-more, gathers-written, gathers-part, reads-gathers}
 use Rattle.mainframe.proofs.LinesLemmas.{lines_of-through}
+use Rattle.mainframe.proofs.WholeRunLemmas.{whole-of, whole-to}
+use Rattle.sw_core.specs.Run.{EveryRunIsGood}
 use Rattle.std.specs.Io.{StopsAt}
 use Rattle.std.specs.Prelude.{if◌then◌else◌}
 use Rattle.mainframe.proofs.KeptLemmas.{no_feeds}
@@ -217,16 +219,18 @@ shown-taken (Some xs) (Some ys) r2 n kept Shown (here, whole) keeps shown loses 
     (whole.1, loses shown ∙ ap (λ l. Some (drop n l)) keeps ∙ ap (λ m. Some (drop m xs)) whole.0 ∙ ap Some (drop-through xs))
 
 -- what the loop over the lines comes to, from a mainframe that was set up
-runs_set_up : (cards : List PlacedCard) (sid : Sid) (start : Panel) (result : Result (Unit {0}) RunFault) (r0 left old new : Option (List ℕ)) → IsSetUp cards
+runs_set_up : EveryRunIsGood → (cards : List PlacedCard) (sid : Sid) (start : Panel) (result : Result (Unit {0}) RunFault) (r0 left old new : Option (List ℕ)) → IsSetUp cards
     sid start
     → OnOk result (IfSome r0 (λ input. AnsweredFrom sid (begins_over start) input [] old new)) → OnOk result (IfSome r0 (λ _. IsAtEnd left))
     → IfErr result (λ fault. IfSome r0 (λ input. EndsFrom sid (begins_over start) fault input left old new))
     → IfSome r0 (λ input. Runs cards result input left old new)
-runs_set_up cards sid start result None left old new s ok all err = tt
-runs_set_up cards sid start (Ok done) (Some input) left old new s ok all err =
-    record { answered = record { sid = sid; start = start; set_up = s; answered = ok }; all = all; fault = tt }
-runs_set_up cards sid start (Err fault) (Some input) left old new s ok all err =
-    record { answered = tt; all = tt; fault = inr (record { sid = sid; start = start; set_up = s; ends = err }) }
+runs_set_up law cards sid start result None left old new s ok all err = tt
+runs_set_up law cards sid start (Ok done) (Some input) left old new s ok all err =
+    let whole = whole-of law cards sid start input [] ok.bytes s ok.runs in
+    record { answered = record { sid = sid; start = start; set_up = s; answered = ok; whole = whole }; all = all; fault = tt }
+runs_set_up law cards sid start (Err fault) (Some input) left old new s ok all err =
+    let whole = whole-to law cards sid start fault input left old new s err in
+    record { answered = tt; all = tt; fault = inr (record { sid = sid; start = start; set_up = s; ends = err; whole = whole }) }
 
 OnOk_map : {T E X Y : Type 0} (r : Result T E) → (X → Y) → OnOk r X → OnOk r Y
 OnOk_map (Ok t) f h = f h
@@ -237,13 +241,13 @@ IfErr_map (Ok t) f h = tt
 IfErr_map (Err e) f h = f e h
 
 -- and from the desk over it
-pub runs_begun : (cards : List PlacedCard) (sid : Sid) (desk spoken : DeskSeen) → IsDeskForOne cards sid spoken → desk ≡ spoken
+pub runs_begun : EveryRunIsGood → (cards : List PlacedCard) (sid : Sid) (desk spoken : DeskSeen) → IsDeskForOne cards sid spoken → desk ≡ spoken
     → (result : Result (Unit {0}) RunFault) (r0 left old new : Option (List ℕ))
     → OnOk result (IfSome r0 (λ input. AnsweredFrom sid (state desk no_macros) input [] old new)) → OnOk result (IfSome r0 (λ _. IsAtEnd left))
     → IfErr result (λ fault. IfSome r0 (λ input. EndsFrom sid (state desk no_macros) fault input left old new))
     → IfSome r0 (λ input. Runs cards result input left old new)
-runs_begun cards sid desk spoken up same result r0 left old new ok all err =
+runs_begun law cards sid desk spoken up same result r0 left old new ok all err =
     let is = same ∙ up.over in
-    runs_set_up cards sid up.panel result r0 left old new up.set_up (OnOk_map result (λ h.
+    runs_set_up law cards sid up.panel result r0 left old new up.set_up (OnOk_map result (λ h.
     subst (λ (d : DeskSeen). IfSome r0 (λ input. AnsweredFrom sid (state d no_macros) input [] old new)) is h) ok) all (IfErr_map result (λ fault h.
     subst (λ (d : DeskSeen). IfSome r0 (λ input. EndsFrom sid (state d no_macros) fault input left old new)) is h) err)

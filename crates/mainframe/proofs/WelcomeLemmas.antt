@@ -16,7 +16,7 @@ both : (b c : Bool) → c ≡ false → (b && c) ≡ false
 both true c e = e
 both false c e = refl
 
-all_open : (n ch : ℕ) → closed_at (replicate n false) ch ≡ false
+pub all_open : (n ch : ℕ) → closed_at (replicate n false) ch ≡ false
 all_open n ch = both (ltb 0 ch) (get_or (replicate n false) (ch - 1) false) (none_in n (ch - 1))
 
 first_sound : IsSound (placed 1 first_card)

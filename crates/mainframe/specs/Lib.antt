@@ -1,4 +1,6 @@
 pub mod Cards
+pub mod RackCards
+pub mod RackBoards
 pub mod Lines
 pub mod Kept
 pub mod Run

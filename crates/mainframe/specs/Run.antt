@@ -3,9 +3,13 @@ use Rattle.std.specs.Prelude.{◌≡◌, ℕ, true, List, [], ◌∷◌, ◌++�
 use Rattle.std.specs.Io.KnownBytes.{Appends, Keeps, IsAtEnd}
 use Rattle.std.specs.Io.{StopsAt}
 use Rattle.sw_core.specs.declared.ask.Sid.{Sid}
-use Rattle.sw_core.specs.Panel.{Panel}
+use Rattle.sw_core.specs.declared.ask.SessionAsk.TheVariants as Ask
+use Rattle.sw_core.specs.declared.ask.SessionAnswer.TheVariants.{Joined}
+use Rattle.sw_core.specs.Panel.{Panel, opening}
+use Rattle.sw_core.specs.Run.{AtEach, IsGoodEvent}
 use Rattle.sw_macro.specs.Table.{no_macros}
 use Rattle.sw_session.specs.CoreDesk.{DeskSeen, CorePasses, WaitsOut, desk_over}
+use Rattle.sw_session.specs.DeskRuns.{Exchange, IsRunTo, asked_in, asked_of}
 use Rattle.sw_session.specs.Talk.{state, Talked}
 use Rattle.sw_session.specs.Talk.{TalkState as StateOver}
 use Rattle.mainframe.specs.declared.fault.RunFault.{RunFault}
@@ -42,6 +46,24 @@ pub record RunsTo (sid : Sid) (start : RunState) (input rest bytes : List ℕ) :
   pub after : RunState
   pub run : Run sid start done bytes after
 
+-- what the session asked over these lines, and was answered
+abbrev pub asks_over : (sid : Sid) (s : RunState) (lines : List (List ℕ)) (bytes : List ℕ) (s' : RunState)
+    → Run sid s lines bytes s' → List Exchange
+asks_over sid s [] bytes s' run = []
+asks_over sid s (l ∷ ls) bytes s' (told, mid, more, line, run, is) =
+    asked_in line.talked.trace ++ asks_over sid mid ls more s' run
+
+-- All that was asked of the mainframe, from its opening state on, is a run, each event of which is good: the session
+-- joined, cards came in, the session asked this, and work was carried out.
+pub record IsWhole (sid : Sid) (asks : List Exchange) (q : Panel) : Type 0 where
+  pub runs : IsRunTo opening q
+  pub asks_are : asked_of runs.events ≡ record { ask = Ask.Join; answer = Joined sid } ∷ asks
+  pub good : AtEach IsGoodEvent opening runs.events
+
+abbrev pub IsWholeOf : (sid : Sid) (start : RunState) (input rest bytes : List ℕ)
+    → RunsTo sid start input rest bytes → Type 0
+IsWholeOf sid start input rest bytes r = IsWhole sid (asks_over sid start r.done bytes r.after r.run) r.after.desk.panel
+
 -- and all of these bytes are written
 pub record AnsweredFrom (sid : Sid) (start : RunState) (input rest : List ℕ) (old new : Option (List ℕ)) : Type 0 where
   pub bytes : List ℕ
@@ -72,12 +94,24 @@ EndsFrom sid start Output input left old new = PartFrom sid start input left old
 EndsFrom sid start Listen input left old new = ⊥
 EndsFrom sid start Descriptors input left old new = ⊥
 
+-- and so it is up to a fault
+abbrev pub IsWholeTo : (sid : Sid) (start : RunState) (fault : RunFault) (input : List ℕ)
+    (left old new : Option (List ℕ)) → EndsFrom sid start fault input left old new → Type 0
+IsWholeTo sid start Input input left old new ends =
+    IsWholeOf sid start input (ends.cut ++ ends.unread) ends.answered.bytes ends.answered.runs
+IsWholeTo sid start Memory input left old new ends =
+    IsWholeOf sid start input (ends.cut ++ ends.unread) ends.answered.bytes ends.answered.runs
+IsWholeTo sid start Output input left old new ends = IsWholeOf sid start input ends.rest ends.bytes ends.runs
+IsWholeTo sid start Listen input left old new ends = ⊥
+IsWholeTo sid start Descriptors input left old new ends = ⊥
+
 -- The whole input is answered by a mainframe of these cards.
 pub record Answered (cards : List PlacedCard) (input : List ℕ) (old new : Option (List ℕ)) : Type 0 where
   pub sid : Sid
   pub start : Panel
   pub set_up : IsSetUp cards sid start
   pub answered : AnsweredFrom sid (begins_over start) input [] old new
+  pub whole : IsWholeOf sid (begins_over start) input [] answered.bytes answered.runs
 
 -- The input is answered up to a fault by a mainframe of these cards.
 pub record Cut (cards : List PlacedCard) (fault : RunFault) (input : List ℕ) (left old new : Option (List ℕ)) : Type 0
@@ -86,6 +120,7 @@ pub record Cut (cards : List PlacedCard) (fault : RunFault) (input : List ℕ) (
     pub start : Panel
     pub set_up : IsSetUp cards sid start
     pub ends : EndsFrom sid (begins_over start) fault input left old new
+    pub whole : IsWholeTo sid (begins_over start) fault input left old new ends
 
 -- there was no memory to begin: nothing was read, and nothing written
 pub record Unbegun (fault : RunFault) (input : List ℕ) (left old new : Option (List ℕ)) : Type 0 where

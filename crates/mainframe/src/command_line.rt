@@ -37,14 +37,20 @@ const SERVED: &str =
 const PORT: u16 = 4880;
 
 /// What a command line asks for.
-#[derive(Clone, Copy, Debug, PartialEq, Eq, Drop)]
+#[derive(Debug, PartialEq, Eq, Drop)]
 pub enum Order {
     /// To answer standard input. The closing of slot 1 that has this number, from 1, fails.
     Run(Option<u32>),
-    /// To check a listing on standard input.
-    Check,
-    /// To serve connections.
-    Serve(Serving),
+    /// To answer standard input by the cards of this file's rack.
+    RunRack(String),
+    /// To check a listing on standard input, against this file's rack or the simulated cards.
+    Check(Option<String>),
+    /// To serve connections, by the cards of this file's rack or by simulated ones.
+    Serve(Serving, Option<String>),
+    /// To say what this file asks for, and to reach each card.
+    Rack(String),
+    /// To switch off every relay of this file's rack.
+    Off(String),
 }
 
 /// How connections are served.
@@ -94,7 +100,7 @@ impl Unrun {
 /// What these words ask for, of which the first is the program's name, or why they ask for nothing to be run.
 pub fn parse_words(alloc: Global, words: &[String]) -> Result<Order, Unrun> {
     match matches_of(alloc, words) {
-        Ok(matches) => order_of(&matches),
+        Ok(matches) => order_of(alloc, &matches),
         Err(error) => Err(Unrun::Words(error)),
     }
 }
@@ -110,20 +116,51 @@ fn command_line<'a>(alloc: Global) -> Result<Command<'a>, AllocError> {
         .long("fuse")
         .value_name("K")
         .help("Let the K-th closing of slot 1 fail, K from 1 to 1000000")
-        .value_parser(clap::value_parser!(u32).range(1..1_000_001));
+        .value_parser(clap::value_parser!(u32).range(1..1_000_001))
+        .conflicts_with("rack")?;
     let run = Command::new(alloc, "run")
         .about("Answer each line of standard input on standard output")
-        .arg(fuse)?;
+        .arg(fuse)?
+        .arg(rack_word(alloc))?;
     let check = Command::new(alloc, "check")
         .about("Check a listing of scan code on standard input")
-        .after_help(LISTING);
+        .after_help(LISTING)
+        .arg(rack_word(alloc))?;
     Command::new(alloc, "mainframe")
-        .about("A SCPI switch mainframe of simulated cards")
+        .about("A SCPI switch mainframe, of simulated cards or of a rack's")
         .version("1.0")
         .subcommand_required(true)
         .subcommand(run)?
         .subcommand(check)?
-        .subcommand(serve_words(alloc)?)
+        .subcommand(serve_words(alloc)?)?
+        .subcommand(rack_words(alloc)?)?
+        .subcommand(off_words(alloc)?)
+}
+
+/// The word that names a rack's file.
+fn rack_word<'a>(alloc: Global) -> Arg<'a> {
+    Arg::new(alloc, "rack")
+        .long("rack")
+        .value_name("FILE")
+        .help("Use the cards of this file, in place of simulated ones")
+}
+
+/// The words of `rack`.
+fn rack_words<'a>(alloc: Global) -> Result<Command<'a>, AllocError> {
+    let file = Arg::new(alloc, "file")
+        .value_name("FILE")
+        .required(true)
+        .help("The rack's file");
+    Command::new(alloc, "rack")
+        .about("Say what a rack's file asks for, and reach each card; nothing moves")
+        .arg(file)
+}
+
+/// The words of `off`.
+fn off_words<'a>(alloc: Global) -> Result<Command<'a>, AllocError> {
+    Command::new(alloc, "off")
+        .about("Switch off every relay of a rack, and read back that it is")
+        .arg(rack_word(alloc).required(true))
 }
 
 /// The words of `serve`.
@@ -152,17 +189,41 @@ fn serve_words<'a>(alloc: Global) -> Result<Command<'a>, AllocError> {
         .arg(address)?
         .arg(port)?
         .arg(until)?
+        .arg(rack_word(alloc))?
         .arg(log)
 }
 
 /// What the words that were understood ask for.
-fn order_of(matches: &ArgMatches) -> Result<Order, Unrun> {
+fn order_of(alloc: Global, matches: &ArgMatches) -> Result<Order, Unrun> {
     match matches.subcommand() {
-        Some(("check", _)) => Ok(Order::Check),
-        Some(("serve", serve)) => Ok(Order::Serve(serving_of(serve)?)),
-        Some((_, run)) => Ok(Order::Run(run.get_one::<u32>("fuse"))),
+        Some(("check", check)) => Ok(Order::Check(file_of(alloc, check, "rack")?)),
+        Some(("serve", serve)) => {
+            Ok(Order::Serve(serving_of(serve)?, file_of(alloc, serve, "rack")?))
+        }
+        Some(("rack", rack)) => Ok(Order::Rack(named(alloc, rack, "file")?)),
+        Some(("off", off)) => Ok(Order::Off(named(alloc, off, "rack")?)),
+        Some((_, run)) => match file_of(alloc, run, "rack")? {
+            Some(path) => Ok(Order::RunRack(path)),
+            None => Ok(Order::Run(run.get_one::<u32>("fuse"))),
+        },
         None => Ok(Order::Run(None)),
     }
+}
+
+/// The file that this word names, where it is there.
+fn file_of(alloc: Global, matches: &ArgMatches, word: &str) -> Result<Option<String>, Unrun> {
+    let Some(path) = matches.get_str(word) else {
+        return Ok(None);
+    };
+    match String::from_str(alloc, path) {
+        Ok(path) => Ok(Some(path)),
+        Err(error) => Err(Unrun::Words(Error::from(error))),
+    }
+}
+
+/// The file that this word names, which `clap` has seen to it is there.
+fn named(alloc: Global, matches: &ArgMatches, word: &str) -> Result<String, Unrun> {
+    Ok(file_of(alloc, matches, word)?.unwrap_or(String::new(alloc)))
 }
 
 /// How the words of `serve` ask for connections to be served.

@@ -3,11 +3,12 @@
 ghost use Rattle.std.specs.Prelude.{◌≡◌, ◌≢◌, ◌⊎◌, true, false, if◌then◌else◌, IfOk, IfErr, IfSome, OnOk, Ok, Err};
 ghost use Rattle.std.specs.Prelude.{string_bytes};
 ghost use Rattle.std.specs.Io.KnownBytes.{IsAtEnd, Keeps};
+ghost use Rattle.sw_base.specs.Layout.{Layout as Cards};
 ghost use Rattle.sw_base.specs.Limits.{most_points};
 ghost use Rattle.sw_code.specs.Reading.{code_in};
 ghost use Rattle.sw_verify.specs.Channels.{is_among};
 ghost use Rattle.sw_verify.specs.Judged.{IsVerified};
-ghost use Rattle.mainframe.specs.Listings.{program_layout, fault_name, refusal_name, Says, IsChecked, IsPartlyChecked};
+ghost use Rattle.mainframe.specs.Listings.{program_layout, fault_name, Says, IsChecked, IsPartlyChecked};
 ghost use Rattle.mainframe.specs.Turns.{IsOfReading};
 ghost use Rattle.mainframe.specs.Whole.{StandsAt};
 ghost use Rattle.mainframe.specs.Listings.{accepted_line, refused_line, faulty_line};
@@ -47,7 +48,7 @@ struct Judgement {
     checked: Checked,
 }
 
-/// Reads a listing to its end and writes what the verifier says of it, against the program's cards with nothing closed
+/// Reads a listing to its end and writes what the verifier says of it, against these cards with nothing closed
 /// and room for `POINTS` readings: `ok bound B readings R`, `refused N Name` or `line L: Name`, and a line feed.
 ///
 /// At a fault of the reader, or where memory runs out, nothing is written, and the reader may have bytes left; at a
@@ -56,30 +57,31 @@ pub fn check_listing<Rd: Read, W: Write>(
     alloc: Global,
     reader: &mut Rd,
     writer: &mut W,
+    layout: &Layout,
 ) -> Result<Checked, RunFault>
     ensures ok { IfOk result (λ checked. IfSome (Rd.remaining reader.old) (λ text.
-        IsChecked checked.accepted text (W.contents writer.old) (W.contents writer.new))) }
+        IsChecked layout.now checked.accepted text (W.contents writer.old) (W.contents writer.new))) }
     ensures all { OnOk result (IsAtEnd (Rd.remaining reader.new)) }
     ensures stands { IfErr result (λ fault. StandsAt fault (Rd.remaining reader.old) (Rd.remaining reader.new)) }
     ensures fault { IfErr result (λ fault. IsOfReading fault ⊎ (fault ≡ RunFault.Output)) }
     ensures unwritten { IfErr result (λ fault. fault ≢ RunFault.Output
         → Keeps (W.contents writer.old) (W.contents writer.new)) }
     ensures partly { result ≡ Err RunFault.Output → IfSome (Rd.remaining reader.old) (λ text.
-        IsPartlyChecked text (W.contents writer.old) (W.contents writer.new)) }
+        IsPartlyChecked layout.now text (W.contents writer.old) (W.contents writer.new)) }
 {
     let text = read_whole(alloc, reader)?;
-    let judgement = judge(alloc, &text)?;
+    let judgement = judge(alloc, &text, layout)?;
     write_bytes(writer, judgement.line.as_bytes())?;
     Ok(judgement.checked)
 }
 
 /// What is to be said of a text.
-fn judge(alloc: Global, text: &[u8]) -> Result<Judgement, RunFault>
-    ensures says { IfOk result (λ j. Says j.checked.accepted text.now (string_bytes j.line)) }
+fn judge(alloc: Global, text: &[u8], layout: &Layout) -> Result<Judgement, RunFault>
+    ensures says { IfOk result (λ j. Says layout.now j.checked.accepted text.now (string_bytes j.line)) }
     ensures memory { IfErr result (λ fault. fault ≡ RunFault.Memory) }
 {
     match read_listing(alloc, text) {
-        Ok(code) => judge_code(alloc, text, code),
+        Ok(code) => judge_code(alloc, text, code, layout),
         Err(error) => match error.kind {
             ListFault::NoMemory => Err(RunFault::Memory),
             _ => faulty(alloc, text, error),
@@ -90,7 +92,8 @@ fn judge(alloc: Global, text: &[u8]) -> Result<Judgement, RunFault>
 /// What is to be said of a text that lists no code.
 fn faulty(alloc: Global, text: &[u8], error: ListError) -> Result<Judgement, RunFault>
     requires listed { code_in text.now ≡ Err error }
-    ensures says { IfOk result (λ j. Says j.checked.accepted text.now (string_bytes j.line)) }
+    ensures says { (cards : Cards) → IfOk result
+        (λ j. Says cards j.checked.accepted text.now (string_bytes j.line)) }
     ensures memory { IfErr result (λ fault. fault ≡ RunFault.Memory) }
 {
     let Ok(line) = faulty_line(alloc, error) else {
@@ -100,19 +103,21 @@ fn faulty(alloc: Global, text: &[u8], error: ListError) -> Result<Judgement, Run
 }
 
 /// What is to be said of a text that lists this code.
-fn judge_code(alloc: Global, text: &[u8], code: Code) -> Result<Judgement, RunFault>
+fn judge_code(
+    alloc: Global,
+    text: &[u8],
+    code: Code,
+    layout: &Layout,
+) -> Result<Judgement, RunFault>
     requires listed { code_in text.now ≡ Ok code }
-    ensures says { IfOk result (λ j. Says j.checked.accepted text.now (string_bytes j.line)) }
+    ensures says { IfOk result (λ j. Says layout.now j.checked.accepted text.now (string_bytes j.line)) }
     ensures memory { IfErr result (λ fault. fault ≡ RunFault.Memory) }
 {
-    let Ok(layout) = program_layout(alloc) else {
-        return Err(RunFault::Memory);
-    };
-    match verify(alloc, code, &layout, &[], POINTS) {
+    match verify(alloc, code, layout, &[], POINTS) {
         Ok(verified) => accepted(alloc, verified.bound(), verified.readings()),
         Err(refusal) => match refusal {
             Refusal::NoMemory => Err(RunFault::Memory),
-            _ => refused(alloc, text, &layout, refusal),
+            _ => refused(alloc, text, layout, refusal),
         },
     }
 }
@@ -166,7 +171,7 @@ fn refused_line(alloc: Global, refusal: Refusal) -> Result<String, AllocError>
     ensures { IfOk result (λ line. string_bytes line ≡ refused_line refusal) }
 {
     let number = refusal.number();
-    let name = refusal_name(refusal);
+    let name = refusal.name();
     format!(in alloc; "refused {number} {name}\n")
 }
 
@@ -180,7 +185,7 @@ fn faulty_line(alloc: Global, error: ListError) -> Result<String, AllocError>
 
 /// The program's cards, in slots 1 to 4.
 #[tactic(auto, unfolding(crate::specs::Cards::first_card, crate::specs::Cards::second_card, crate::specs::Cards::third_card, crate::specs::Cards::meter_card))]
-fn program_layout(alloc: Global) -> Result<Layout, AllocError>
+pub fn program_layout(alloc: Global) -> Result<Layout, AllocError>
     ensures { IfOk result (λ layout. layout ≡ program_layout) }
 {
     let mut slots = Vec::new(alloc);
@@ -199,22 +204,5 @@ fn fault_name(fault: ListFault) -> &'static str
         ListFault::BadNumber => "BadNumber",
         ListFault::TooLong => "TooLong",
         ListFault::NoMemory => "NoMemory",
-    }
-}
-
-fn refusal_name(refusal: Refusal) -> &'static str
-    ensures { result.now ≡ refusal_name refusal }
-{
-    match refusal {
-        Refusal::EmptyList => "EmptyList",
-        Refusal::NoChannel => "NoChannel",
-        Refusal::NoMeter => "NoMeter",
-        Refusal::GroupClash => "GroupClash",
-        Refusal::TooManyReadings => "TooManyReadings",
-        Refusal::BadNesting => "BadNesting",
-        Refusal::BadJump => "BadJump",
-        Refusal::LeftClosed => "LeftClosed",
-        Refusal::NotClosed => "NotClosed",
-        Refusal::NoMemory => "NoMemory",
     }
 }

@@ -16,9 +16,15 @@ mod descriptors;
 mod error_log;
 mod explanation;
 mod fault;
+mod host_link;
 mod laws;
 mod listing;
 mod misread;
+mod rack_cards;
+mod rack_fault;
+mod rack_lines;
+mod rack_text;
+mod racks;
 mod reading;
 mod run;
 mod serving;
@@ -32,19 +38,23 @@ use command_line::{Order, Serving, Unrun, parse_words, unrun_status};
 use descriptors::are_open;
 use error_log::ErrorLog;
 use fault::RunFault;
-use listing::check_listing;
-use run::run_lines;
-use serving::serve_on;
+use listing::{check_listing, program_layout};
+use rack_cards::rack_layout;
+use racks::{HostCards, cards_in, ended, rack_in, switch_off, tell_rack};
+use run::{run_lines, run_over};
+use serving::{serve_by, serve_on};
 use std::alloc::{AllocError, Global};
 use std::io;
-use std::io::{BufReader, Read};
+use std::io::{BufReader, Input, Read};
 use std::net::{Net, SocketAddr, TcpListener, TcpStream};
 use std::os::fd::AsRawFd;
 use std::process::ExitCode;
 use std::sync::Wait;
 use std::thread::Threads;
 use std::time::Clock;
-use sw_serve::Door;
+use sw_card::{Meter, Relay};
+use sw_serve::{Door, SlotCard};
+use sw_verify::Layout;
 
 fn main(rt: HostRuntime) -> ExitCode {
     let Ok(words) = std::env::args(&rt) else {
@@ -56,15 +66,26 @@ fn main(rt: HostRuntime) -> ExitCode {
     };
     match parse_words(rt.alloc(), words.as_slice()) {
         Ok(Order::Run(fuse)) => answer_input(&rt, fuse),
-        Ok(Order::Check) => check_input(&rt),
-        Ok(Order::Serve(serving)) => {
-            let input = if serving.until_end_of_input {
-                Some(rt.reader())
-            } else {
-                None
-            };
-            serve_at(rt, rt.alloc(), serving, input)
+        Ok(Order::RunRack(path)) => run_rack(&rt, path.as_str()),
+        Ok(Order::Check(None)) => check_input(&rt, program_layout(rt.alloc())),
+        Ok(Order::Check(Some(path))) => match rack_in(&rt, rt.alloc(), path.as_str()) {
+            Ok(rack) => check_input(&rt, rack_layout(rt.alloc(), &rack)),
+            Err(status) => status,
+        },
+        Ok(Order::Serve(serving, None)) => {
+            let cards: Option<HostCards> = None;
+            serve_at(rt, rt.alloc(), serving, input_of(&rt, serving), cards)
         }
+        Ok(Order::Serve(serving, Some(path))) => match cards_in(&rt, path.as_str()) {
+            Ok((cards, interlock)) => {
+                let input = input_of(&rt, serving);
+                let status = serve_at(rt, rt.alloc(), serving, input, Some(cards));
+                ended(&rt, &interlock, status)
+            }
+            Err(status) => status,
+        },
+        Ok(Order::Rack(path)) => tell_rack(&rt, path.as_str()),
+        Ok(Order::Off(path)) => switch_off(&rt, path.as_str()),
         Err(error) => unrun(&rt, &error),
     }
 }
@@ -81,10 +102,39 @@ fn answer_input(rt: &HostRuntime, fuse: Option<u32>) -> ExitCode {
     }
 }
 
-/// Says of the listing on standard input whether it may be done, and on standard error why not.
-fn check_input(rt: &HostRuntime) -> ExitCode {
+/// Answers standard input on standard output, by the cards of this file's rack.
+fn run_rack(rt: &HostRuntime, path: &str) -> ExitCode {
+    let (cards, interlock) = match cards_in(rt, path) {
+        Ok(found) => found,
+        Err(status) => return status,
+    };
+    let Ok(mut reader) = BufReader::new(rt.alloc(), rt.reader()) else {
+        return stopped(rt, RunFault::Memory);
+    };
     let mut writer = io::writer(rt);
-    let checked = match check_listing(rt.alloc(), &mut rt.reader(), &mut writer) {
+    let status = match run_over(rt.alloc(), &mut reader, &mut writer, cards) {
+        Ok(()) => ExitCode::SUCCESS,
+        Err(fault) => stopped(rt, fault),
+    };
+    ended(rt, &interlock, status)
+}
+
+/// Standard input, where it is served until that ends.
+fn input_of<W: Input>(rt: &W, serving: Serving) -> Option<W::Reader> {
+    if serving.until_end_of_input {
+        Some(rt.reader())
+    } else {
+        None
+    }
+}
+
+/// Says of the listing on standard input whether these cards may do it, and on standard error why not.
+fn check_input(rt: &HostRuntime, layout: Result<Layout, AllocError>) -> ExitCode {
+    let Ok(layout) = layout else {
+        return stopped(rt, RunFault::Memory);
+    };
+    let mut writer = io::writer(rt);
+    let checked = match check_listing(rt.alloc(), &mut rt.reader(), &mut writer, &layout) {
         Ok(checked) => checked,
         Err(fault) => return stopped(rt, fault),
     };
@@ -94,8 +144,8 @@ fn check_input(rt: &HostRuntime) -> ExitCode {
     ExitCode::from(checked.status())
 }
 
-/// Serves connections at an address and a port, and says when it listens, or why it can't. With `input` it serves until
-/// that ends.
+/// Serves connections at an address and a port, by these cards or by simulated ones, and says when it listens, or why it
+/// can't. With `input` it serves until that ends.
 fn serve_at<
     W: Threads
         + Wait
@@ -108,7 +158,15 @@ fn serve_at<
         + Sync
         + 'static,
     I: Read + AsRawFd + Drop,
->(rt: W, alloc: Global, serving: Serving, input: Option<I>) -> ExitCode {
+    R: Relay + Send + 'static,
+    M: Meter + Send + 'static,
+>(
+    rt: W,
+    alloc: Global,
+    serving: Serving,
+    input: Option<I>,
+    cards: Option<Vec<SlotCard<R, M>>>,
+) -> ExitCode {
     if !are_open() {
         return stopped(&rt, RunFault::Descriptors);
     }
@@ -124,7 +182,11 @@ fn serve_at<
         is_on: serving.is_logged,
     };
     let mut door = Door::new(rt, alloc, &listener, input, log);
-    match serve_on(rt, alloc, &mut door, u32::MAX, log) {
+    let served = match cards {
+        Some(cards) => serve_by(rt, alloc, &mut door, u32::MAX, cards, log),
+        None => serve_on(rt, alloc, &mut door, u32::MAX, log),
+    };
+    match served {
         Ok(()) => ExitCode::SUCCESS,
         Err(fault) => stopped(&rt, fault),
     }

@@ -16,7 +16,7 @@ use crate::writing::{gather, write_out};
 use std::alloc::Global;
 use std::io::{BufRead, Write};
 use sw_card::{Meter, Relay};
-use sw_core::Sid;
+use sw_core::{Sid, every_run_is_good};
 use sw_serve::{SlotCard, desk_for_one};
 use sw_session::{CoreDesk, TURNS, Talker};
 
@@ -45,7 +45,7 @@ pub fn run_lines<Rd: BufRead, W: Write>(
 
 /// Answers each line of the source as a program message, by a mainframe that takes these cards. The program's are never
 /// refused (`cards_are_welcome`), so where none is to be had there was no memory.
-fn run_over<R: Relay, M: Meter, S: LineSource<W>, W: Write>(
+pub fn run_over<R: Relay, M: Meter, S: LineSource<W>, W: Write>(
     alloc: Global,
     source: &mut S,
     writer: &mut W,
@@ -56,6 +56,7 @@ fn run_over<R: Relay, M: Meter, S: LineSource<W>, W: Write>(
         (meter_seen M.the_serial M.failed M.last_reading) cards.items)
         result input (S.remaining source.new) (W.contents writer.old) (W.contents writer.new)) }
 {
+    every_run_is_good();
     match desk_for_one(alloc, cards) {
         Ok((desk, sid)) => {
             let mut desk = desk;

@@ -33,7 +33,7 @@ pub fn serve_on<
 
 /// The same by these cards, which end with it. The program's are never refused (`cards_are_welcome`), so where it fails
 /// there was no memory.
-fn serve_by<
+pub fn serve_by<
     R: Relay + Send + 'static,
     M: Meter + Send + 'static,
     W: Threads + Wait + Clock + Copy + Drop + Send + Sync + 'static,

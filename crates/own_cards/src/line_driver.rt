@@ -14,6 +14,7 @@ pub struct LineDriver<W: Write + Drop> {
     board: u8,
     line: W,
     coils: [bool; 256],
+    is_sure: bool,
 }
 
 impl<W: Write + Drop> LineDriver<W> {
@@ -23,12 +24,15 @@ impl<W: Write + Drop> LineDriver<W> {
             board,
             line,
             coils: no_flags(),
+            is_sure: true,
         }
     }
 }
 
 impl<W: Write + Drop> Driver for LineDriver<W> {
     ghost driven = { λ d k. slice_index_or d.coils k false };
+
+    ghost sure = { λ d. d.is_sure };
 
     fn drive(&mut self, ch: u8, on: bool) -> Result<(), CardFault> {
         let word = if on { "close" } else { "open" };
@@ -40,8 +44,12 @@ impl<W: Write + Drop> Driver for LineDriver<W> {
         Ok(())
     }
 
+    fn is_sure(&self) -> bool {
+        self.is_sure
+    }
+
     fn cut(&mut self) {
-        let _ = writeln!(self.line, "{} off", self.board);
+        self.is_sure = writeln!(self.line, "{} off", self.board).is_ok();
         self.coils = no_flags();
     }
 }

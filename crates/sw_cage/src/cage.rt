@@ -1,7 +1,7 @@
 //! The cage as the layers above see it.
 
 ghost use Rattle.std.specs.Prelude.{◌≡◌, ℕ, ◌-◌, ◌≤◌, List, [], ◌∷◌, Bool, true, false, None, Some, IsOk, OnOk, OnErr};
-ghost use Rattle.std.specs.Prelude.{IfOk, IfErr, slice_set, replicate, is_some, ◌↔◌, IsTrue, ◌+◌, ◌<◌, ◌^◌, ◌||◌};
+ghost use Rattle.std.specs.Prelude.{IfOk, IfErr, IfSome, IfNone, slice_set, replicate, is_some, ◌↔◌, IsTrue, ◌+◌, ◌<◌, ◌^◌, ◌||◌};
 ghost use Rattle.std.specs.Prelude.{is_err, vec_capacity};
 ghost use Rattle.sw_base.specs.Limits.{most_slots};
 ghost use Rattle.sw_base.specs.Layout.{Channel, slot_at, is_present, has_meter, IsClash, IsExclusive};
@@ -274,6 +274,15 @@ impl<R: Relay, M: Meter> Cage<R, M> {
         ensures meters { meters_of self.new.cards ≡ meters_of self.old.cards }
     {
         self.slots.open_listed(chans)
+    }
+
+    /// The card in the slot; none, where it is empty, or its meter is out.
+    pub fn card(&self, slot: u8) -> Option<&Card<R, M>>
+        ensures some { IfSome result (λ card. slot_at self.now.cards slot ≡ Some card.now) }
+        ensures account { IfSome result (λ card. slot_at self.now.seen.cards slot ≡ Some card.now.1) }
+        ensures none { IfNone result (slot_at self.now.seen.cards slot ≡ None) }
+    {
+        self.slots.card(slot)
     }
 
     /// Whether the slot's meter is out.

@@ -6,6 +6,7 @@ ghost use Rattle.sw_base.specs.Layout.{group_at, has_channel};
 ghost use Rattle.sw_base.specs.Limits.{most_channels};
 ghost use Rattle.sw_card.specs.Account.{closed_at, set_closed, relay_account, of_meter, is_meter, with_set, at_rest};
 ghost use Rattle.sw_card.specs.Account.{IsFault};
+ghost use Rattle.sw_card.specs.Kind.{surety};
 ghost use Rattle.sw_card.specs.Mask.{IsMaskOf};
 
 use crate::board::CardFault;
@@ -163,6 +164,16 @@ impl<R: Relay, M: Meter> Card<R, M> {
         match &self.kind {
             Kind::Relays(card) => card.relay.is_closed(ch),
             Kind::Meters(_) => false,
+        }
+    }
+
+    /// Whether the card can say that its relays stand as its account says; a meter has none.
+    pub fn is_sure(&self) -> bool
+        ensures { result ≡ surety R.sure self.now.0 }
+    {
+        match &self.kind {
+            Kind::Relays(card) => card.relay.is_sure(),
+            Kind::Meters(_) => true,
         }
     }
 

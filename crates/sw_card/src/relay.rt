@@ -20,6 +20,9 @@ pub trait Relay: Board {
 
     ghost closed: { Self → List Bool };
 
+    // Whether the card can say that its relays stand as its account says; a card that can't tell is sure.
+    ghost sure: { Self → Bool } = { λ _. true };
+
     /// How many channels it has.
     fn channels(&self) -> u8
         ensures groups { result ≡ length (groups self.now) }
@@ -32,6 +35,10 @@ pub trait Relay: Board {
     /// Whether the channel is closed; an absent one is not.
     fn is_closed(&self, ch: u8) -> bool
         ensures { result ≡ closed_at (closed self.now) ch };
+
+    /// Whether the card can say that its relays stand as its account says.
+    fn is_sure(&self) -> bool
+        ensures { result ≡ sure self.now };
 
     /// Closes a channel. After a fault nothing is closed but what was, and perhaps the channel.
     fn close(&mut self, ch: u8) -> Result<(), CardFault>
@@ -81,6 +88,8 @@ impl Relay for Box<dyn Relay + Send> {
 
     ghost closed = { λ b. (Relay-box b).Relay.closed b.value };
 
+    ghost sure = { λ b. (Relay-box b).Relay.sure b.value };
+
     fn channels(&self) -> u8 {
         (**self).channels()
     }
@@ -91,6 +100,10 @@ impl Relay for Box<dyn Relay + Send> {
 
     fn is_closed(&self, ch: u8) -> bool {
         (**self).is_closed(ch)
+    }
+
+    fn is_sure(&self) -> bool {
+        (**self).is_sure()
     }
 
     fn close(&mut self, ch: u8) -> Result<(), CardFault> {

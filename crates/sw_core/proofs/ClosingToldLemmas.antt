@@ -27,7 +27,7 @@ use Rattle.sw_core.proofs.KeptLemmas.{IsKept, inside}
 
 -- ---- absent channels
 
-absent_none : (layout : Layout) (chans : List Channel) → first_absent layout chans ≡ None → all_present layout chans ≡ true
+pub absent_none : (layout : Layout) (chans : List Channel) → first_absent layout chans ≡ None → all_present layout chans ≡ true
 absent_none layout [] e = refl
 absent_none layout (c ∷ chans) e = by_one (λ k. absent_none layout chans k) (is_present layout c) e
   where
@@ -36,7 +36,7 @@ absent_none layout (c ∷ chans) e = by_one (λ k. absent_none layout chans k) (
     by_one rest true e = rest e
     by_one rest false e = absurd (cc (e))
 
-none_absent : (layout : Layout) (chans : List Channel) → all_present layout chans ≡ true → first_absent layout chans ≡ None
+pub none_absent : (layout : Layout) (chans : List Channel) → all_present layout chans ≡ true → first_absent layout chans ≡ None
 none_absent layout [] e = refl
 none_absent layout (c ∷ chans) e = by_one (λ k. none_absent layout chans k) (is_present layout c) e
   where
@@ -47,7 +47,7 @@ none_absent layout (c ∷ chans) e = by_one (λ k. none_absent layout chans k) (
 
 -- ---- two channels of one group
 
-joined_clash : (layout : Layout) (c d : Channel) → are_joined layout c d ≡ true → IsClash layout c d
+pub joined_clash : (layout : Layout) (c d : Channel) → are_joined layout c d ≡ true → IsClash layout c d
 joined_clash layout c d h =
     let a = and_parts (not (same_channel c d)) (not (group_of layout c == 0) && (group_of layout c == group_of layout d)) h in
     let b = and_parts (not (group_of layout c == 0)) (group_of layout c == group_of layout d) a.1 in
@@ -80,7 +80,7 @@ clash_back layout c d k = record { other = λ e. k.other (sym e); grouped = λ e
 
 -- ---- one channel beside others
 
-joined_some : (layout : Layout) (c : Channel) (others : List Channel) (d : Channel) → joined_with layout c others ≡ Some d
+pub joined_some : (layout : Layout) (c : Channel) (others : List Channel) (d : Channel) → joined_with layout c others ≡ Some d
     → (is_among others d ≡ true) × (are_joined layout c d ≡ true)
 joined_some layout c [] d e = absurd (cc (e))
 joined_some layout c (x ∷ others) d e = by_one (λ k. joined_some layout c others d k) (are_joined layout c x) refl e
@@ -94,7 +94,7 @@ joined_some layout c (x ∷ others) d e = by_one (λ k. joined_some layout c oth
         )
     by_one rest false is e = let r = rest e in (or_right (same_channel d x) (is_among others d) r.0, r.1)
 
-joined_none : (layout : Layout) (c : Channel) (others : List Channel) → joined_with layout c others ≡ None → (d : Channel) → is_among others d ≡ true
+pub joined_none : (layout : Layout) (c : Channel) (others : List Channel) → joined_with layout c others ≡ None → (d : Channel) → is_among others d ≡ true
     → IsClash layout c d → ⊥
 joined_none layout c [] e d m k = absurd (cc (m))
 joined_none layout c (x ∷ others) e d m k =

@@ -34,13 +34,14 @@ use Rattle.sw_core.specs.declared.ask.SessionAnswer.TheVariants as Answer
 use Rattle.sw_core.specs.declared.ask.SessionAnswer.TheVariants.{Joined, Full, Stranger, Broken, Done, Refused, Hold}
 use Rattle.sw_core.specs.Panel.{Panel, with_cards, is_running}
 use Rattle.sw_core.specs.Registers.{card_fault_reported}
-use Rattle.sw_core.specs.Action.{Effect, TellsText, TellsReadings, ReadsOut, SetsStatus, SetsUp, ClosesListed, OpensListed, TellsRelays, Changes}
+use Rattle.sw_core.specs.Action.{Effect, TellsText, TellsReadings, ReadsOut, SetsStatus, SetsUp, ClosesListed, OpensListed, TellsHardware, TellsSurety}
+use Rattle.sw_core.specs.Action.{Changes}
 use Rattle.sw_core.specs.Action.{Resets, reset, Triggers, RefusesWith, IsOfMacros, Initiates, Action, AtOnce, BetweenScans, AfterScan, action_of}
 use Rattle.sw_core.specs.Seats.{asker_of}
 use Rattle.sw_core.specs.Event.{concluded, ended, erred, last_number}
 use Rattle.sw_core.specs.Seen.{WorkSeen, AskSeen, AskSession, AskInstall, AskEject, AskExternal, AskElapsed, AskFinished, AnswerSeen, SaysSession}
 use Rattle.sw_core.specs.Seen.{SaysInstalled, SaysNotInstalled, SaysEjected, SaysNotEjected, SaysFailed, SaysBack}
-use Rattle.sw_core.specs.Step.{IsFailSafe, StepClose, StepOpen, StepFlags, StepText, StepDone, StepSetting, StepRefused, StepReadings, StepAlone}
+use Rattle.sw_core.specs.Step.{IsFailSafe, StepClose, StepOpen, StepHardware, StepSurety, StepText, StepDone, StepSetting, StepRefused, StepReadings, StepAlone}
 use Rattle.sw_core.specs.Step.{Happens, StepHappens, StepEffect, StepHeld, StepAction, StepSnapshot, IsStarted, Starts, StepStart, StepJoined}
 use Rattle.sw_core.specs.Step.{session_told, work_of, started_answer, outside_told, acts_unnumbered, IsEvent, IsUnnumbered, Step}
 use Rattle.sw_core.specs.Step.{StepAdmitted, StepNew, StepJoin, StepAttach, StepSession, StepOutside, Returns, IsReturned, StepFinished, Acts}
@@ -160,11 +161,15 @@ no_readings : (l : List Reading) (p : Panel) (a : SessionAnswer) (q : Panel) →
 no_readings [] p a q h = no_refused p DataCorruptOrStale a q h
 no_readings (r ∷ rs) p a q h = no_text p (join_with_byte 44 (map reading_text (r ∷ rs))) p.status a q h
 
-no_flags : (p : Panel) (closed : Bool) (chans : List Channel) (a : SessionAnswer) (q : Panel) → StepFlags p closed chans true a q → ⊥
-no_flags p closed chans (Done (Some t)) q h = true_is_false h.0
-no_flags p closed chans (Refused HardwareMissing) q h = true_is_false h.0
-no_flags p closed chans (Refused OutOfMemory) q h = true_is_false h.0
-no_flags p closed chans a q h = absurd h
+no_hardware : (p : Panel) (there : Bool) (text : List ℕ) (a : SessionAnswer) (q : Panel) → StepHardware p there text true a q → ⊥
+no_hardware p there text (Done (Some t)) q h = true_is_false h.0
+no_hardware p there text (Refused HardwareMissing) q h = true_is_false h.0
+no_hardware p there text (Refused OutOfMemory) q h = true_is_false h.0
+no_hardware p there text a q h = absurd h
+
+no_surety : (p : Panel) (known : Option (List ℕ)) (a : SessionAnswer) (q : Panel) → StepSurety p known true a q → ⊥
+no_surety p known (Done (Some t)) q h = true_is_false h.0
+no_surety p known a q h = absurd h
 
 abbrev IsAloneFall : Panel → SessionAnswer → Panel → Type 0
 IsAloneFall p a q = (a ≡ Refused HardwareError) × Falls (reported p) q
@@ -190,7 +195,8 @@ told_alone (SetsStatus after) p a q h = absurd (no_done (record p { status = aft
 told_alone (SetsUp Fits error after) p a q h = absurd (no_setting p Fits error (after p.settings) a q h)
 told_alone (ClosesListed chans) p a q h = told_close p chans a q h
 told_alone (OpensListed chans) p a q h = told_open p chans a q h
-told_alone (TellsRelays closed chans) p a q h = absurd (no_flags p closed chans a q h)
+told_alone (TellsHardware there text) p a q h = absurd (no_hardware p (there p) (text p) a q h)
+told_alone (TellsSurety known) p a q h = absurd (no_surety p (known p) a q h)
 told_alone (Changes after) p a q h = absurd (no_done (after p) a q h)
 told_alone Resets p a q h = absurd (no_done (reset p) a q h)
 told_alone (RefusesWith error) p a q h = absurd (no_refused p error a q h)

@@ -7,6 +7,7 @@ use Rattle.sw_base.specs.declared.error.ScpiError.TheVariants.{TriggerIgnored, A
 use Rattle.sw_base.specs.declared.error.ScpiError.TheVariants.{SettingsConflict, HardwareError}
 use Rattle.sw_lex.specs.declared.command.Command.{Command}
 use Rattle.sw_lex.specs.declared.command.Plain.{Plain}
+use Rattle.sw_lex.specs.declared.command.SlotQuery.{SlotQuery}
 use Rattle.sw_lex.specs.declared.command.StatusRead.{StatusRead}
 use Rattle.sw_lex.specs.declared.command.Channels.{Channels}
 use Rattle.sw_lex.specs.declared.command.Time.{Time}
@@ -22,7 +23,8 @@ use Rattle.sw_cage.specs.Good.{IsRunning}
 use Rattle.sw_cage.proofs.SlotChangeLemmas.{is_none, all_open_closed, exclusive_none}
 use Rattle.sw_cage.proofs.ChannelCallLemmas.{identities_all_open}
 use Rattle.sw_core.specs.Panel.{Panel, is_running}
-use Rattle.sw_core.specs.Action.{Effect, TellsText, TellsReadings, ReadsOut, SetsStatus, SetsUp, ClosesListed, OpensListed, TellsRelays, Changes}
+use Rattle.sw_core.specs.Action.{Effect, TellsText, TellsReadings, ReadsOut, SetsStatus, SetsUp, ClosesListed, OpensListed, TellsHardware, TellsSurety}
+use Rattle.sw_core.specs.Action.{Changes}
 use Rattle.sw_core.specs.Action.{Resets, Triggers, RefusesWith, IsOfMacros, Initiates, Action, AtOnce, BetweenScans, AfterScan, action_of}
 use Rattle.sw_core.specs.Action.{Fits, misfit, with_value, with_bits, without_read, ignored_at}
 use Rattle.sw_core.proofs.KeptLemmas.{IsKept, kept_rack, kept_over}
@@ -126,7 +128,8 @@ IsHarmless p (SetsStatus after) = IsStatus p.status → IsStatus (after p.status
 IsHarmless p (SetsUp Fits error after) = (Fits → IsInRange p.settings → IsInRange (after p.settings)) × (error ≢ HardwareError) × (is_running p ≡ false)
 IsHarmless p (ClosesListed chans) = is_running p ≡ false
 IsHarmless p (OpensListed chans) = is_running p ≡ false
-IsHarmless p (TellsRelays closed chans) = Unit {0}
+IsHarmless p (TellsHardware there text) = Unit {0}
+IsHarmless p (TellsSurety known) = Unit {0}
 IsHarmless p (Changes after) = IsFine p → IsFine (after p)
 IsHarmless p Resets = Unit {0}
 IsHarmless p (Triggers happening error) = error ≢ HardwareError
@@ -207,6 +210,9 @@ harmless p available (Command.Plain Plain.Read) = tt
 harmless p available (Command.Query query) = tt
 harmless p available (Command.LayerQuery query layer) = tt
 harmless p available (Command.GroupQuery query group) = tt
+harmless p available (Command.SlotQuery SlotQuery.Kind slot) = tt
+harmless p available (Command.SlotQuery SlotQuery.Groups slot) = tt
+harmless p available (Command.SlotQuery SlotQuery.State slot) = tt
 harmless p available (Command.ReadOut read) = λ u. read_fine read p.status u
 harmless p available (Command.Signal layer) = not_ignored layer
 harmless p available (Command.Continuous true) = conflict

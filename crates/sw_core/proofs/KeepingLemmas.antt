@@ -12,6 +12,7 @@ use Rattle.sw_card.specs.declared.board.CardFault.{CardFault}
 use Rattle.sw_lex.specs.declared.command.Command.{Command}
 use Rattle.sw_lex.specs.declared.command.Plain.{Plain}
 use Rattle.sw_lex.specs.declared.command.Channels.{Channels}
+use Rattle.sw_lex.specs.declared.command.SlotQuery.{SlotQuery}
 use Rattle.sw_trigger.specs.Settings.{SettingsSeen}
 use Rattle.sw_status.specs.StatusModel.{StatusSeen}
 use Rattle.sw_verify.specs.declared.snapshot.Snapshot.{Snapshot}
@@ -28,13 +29,14 @@ use Rattle.sw_core.specs.declared.ask.SessionAnswer.{SessionAnswer}
 use Rattle.sw_core.specs.declared.ask.SessionAnswer.TheVariants as answers
 use Rattle.sw_core.specs.declared.ask.SessionAnswer.TheVariants.{Joined, Full, Stranger, Broken, Done, Refused, Hold, Worn}
 use Rattle.sw_core.specs.Panel.{Panel, with_cards, is_running}
-use Rattle.sw_core.specs.Action.{Effect, TellsText, TellsReadings, ReadsOut, SetsStatus, SetsUp, ClosesListed, OpensListed, TellsRelays, Changes}
+use Rattle.sw_core.specs.Action.{Effect, TellsText, TellsReadings, ReadsOut, SetsStatus, SetsUp, ClosesListed, OpensListed, TellsHardware, TellsSurety}
+use Rattle.sw_core.specs.Action.{Changes}
 use Rattle.sw_core.specs.Action.{Resets, Triggers, RefusesWith, IsOfMacros, Initiates, Action, AtOnce, BetweenScans, AfterScan, action_of}
 use Rattle.sw_core.specs.Event.{last_number}
 use Rattle.sw_core.specs.Seats.{asker_of}
 use Rattle.sw_core.specs.Seen.{WorkSeen, AskSeen, AskSession, AskInstall, AskEject, AskExternal, AskElapsed, AskFinished, AnswerSeen, SaysSession}
 use Rattle.sw_core.specs.Seen.{SaysInstalled, SaysNotInstalled, SaysEjected, SaysNotEjected, SaysBack, SaysWorn}
-use Rattle.sw_core.specs.Step.{StepClose, StepOpen, StepFlags, StepText, StepDone, StepSetting, StepRefused, StepReadings, StepAlone, StepEffect, StepHeld}
+use Rattle.sw_core.specs.Step.{StepClose, StepOpen, StepHardware, StepSurety, StepText, StepDone, StepSetting, StepRefused, StepReadings, StepAlone, StepEffect, StepHeld}
 use Rattle.sw_core.specs.Step.{StepAction, StepSnapshot, StepStart, IsServed, StepJoined, StepAdmitted, StepJoin, StepAttach, StepNew, StepSession}
 use Rattle.sw_core.specs.Step.{Happens, outside_told, Returns, StepFinished, Acts, acts_unnumbered, IsWorn, IsEvent, IsUnnumbered, Step}
 use Rattle.sw_core.specs.Step.{Admission, Dropped, ShutOut, Admitted, admission}
@@ -67,11 +69,15 @@ keep_open p chans f (Refused HardwareMissing) q h = keep_is p q h.2
 keep_open p chans f (Refused HardwareError) q h = (ap (λ (x : Panel). x.sessions) h.2.1, ap (λ (x : Panel). x.cage.readings) h.2.1)
 keep_open p chans f a q h = absurd h
 
-keep_flags : (p : Panel) (closed : Bool) (chans : List Channel) (f : Bool) (a : SessionAnswer) (q : Panel) → StepFlags p closed chans f a q → IsKeeping p q
-keep_flags p closed chans f (Done (Some text)) q h = keep_is p q h.3
-keep_flags p closed chans f (Refused HardwareMissing) q h = keep_is p q h.2
-keep_flags p closed chans f (Refused OutOfMemory) q h = keep_is p q h.2
-keep_flags p closed chans f a q h = absurd h
+keep_hardware : (p : Panel) (there : Bool) (text : List ℕ) (f : Bool) (a : SessionAnswer) (q : Panel) → StepHardware p there text f a q → IsKeeping p q
+keep_hardware p there text f (Done (Some t)) q h = keep_is p q h.3
+keep_hardware p there text f (Refused HardwareMissing) q h = keep_is p q h.2
+keep_hardware p there text f (Refused OutOfMemory) q h = keep_is p q h.2
+keep_hardware p there text f a q h = absurd h
+
+keep_surety : (p : Panel) (known : Option (List ℕ)) (f : Bool) (a : SessionAnswer) (q : Panel) → StepSurety p known f a q → IsKeeping p q
+keep_surety p known f (Done (Some t)) q h = keep_is p q h.2
+keep_surety p known f a q h = absurd h
 
 keep_text : (p : Panel) (text : List ℕ) (status : StatusSeen) (f : Bool) (a : SessionAnswer) (q : Panel) → StepText p text status f a q → IsKeeping p q
 keep_text p text status f (Done (Some t)) q h = keep_as p q (record p { status = status }) h.2 (refl, refl)
@@ -116,6 +122,9 @@ keeps_command p available (Command.Plain Plain.Reset) n = absurd (cc (n))
 keeps_command p available (Command.Continuous true) n = (refl, refl)
 keeps_command p available (Command.Continuous false) n = (refl, refl)
 keeps_command p available (Command.Channels Channels.Close chans) n = (refl, refl)
+keeps_command p available (Command.SlotQuery SlotQuery.Kind slot) n = (refl, refl)
+keeps_command p available (Command.SlotQuery SlotQuery.Groups slot) n = (refl, refl)
+keeps_command p available (Command.SlotQuery SlotQuery.State slot) n = (refl, refl)
 keeps_command p available command n = (refl, refl)
 
 keep_alone : (d : Effect) (p : Panel) (f : Bool) (a : SessionAnswer) (q : Panel) → KeepsEffect p d → StepAlone d p f a q → IsKeeping p q
@@ -126,7 +135,8 @@ keep_alone (SetsStatus after) p f a q k h = keep_done p (record p { status = aft
 keep_alone (SetsUp Fits error after) p f a q k h = keep_setting p Fits error (after p.settings) f a q h
 keep_alone (ClosesListed chans) p f a q k h = keep_close p chans f a q h
 keep_alone (OpensListed chans) p f a q k h = keep_open p chans f a q h
-keep_alone (TellsRelays closed chans) p f a q k h = keep_flags p closed chans f a q h
+keep_alone (TellsHardware there text) p f a q k h = keep_hardware p (there p) (text p) f a q h
+keep_alone (TellsSurety known) p f a q k h = keep_surety p (known p) f a q h
 keep_alone (Changes after) p f a q k h = keep_done p (after p) f a q k h
 keep_alone Resets p f a q k h = absurd k
 keep_alone (RefusesWith error) p f a q k h = keep_refused p error f a q h

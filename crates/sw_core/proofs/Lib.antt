@@ -1,4 +1,5 @@
 mod RowsLemmas
+mod HardwareLemmas
 mod CallsLemmas
 pub mod AnsweredLemmas
 mod HappenedLemmas
@@ -30,5 +31,8 @@ mod ScanRunsLemmas
 mod ScanNumberLemmas
 mod ReadsLemmas
 mod ClosingToldLemmas
+mod ScanCheckingLemmas
+mod ScanToldLemmas
+mod SlotsToldLemmas
 mod EveryRunLemmas
 mod GoingOnLemmas

@@ -1,5 +1,5 @@
 -- A command that is carried out has one answer, where memory suffices and no card fails.
-use Rattle.std.proofs.Common.{◌≡◌, ◌≢◌, ℕ, Bool, true, false, List, None, Some, refl, sym, ◌∙◌, ap, [], ◌∷◌, map}
+use Rattle.std.proofs.Common.{◌≡◌, ◌≢◌, ℕ, Bool, true, false, List, Option, None, Some, refl, sym, ◌∙◌, ap, [], ◌∷◌, map}
 use Rattle.sw_base.specs.Layout.{Channel}
 use Rattle.sw_base.specs.declared.error.ScpiError.{ScpiError}
 use Rattle.sw_base.specs.declared.error.ScpiError.TheVariants.{UndefinedHeader, DataCorruptOrStale, HardwareMissing, SettingsConflict, HardwareError}
@@ -14,10 +14,13 @@ use Rattle.sw_cage.specs.Change.{Sets}
 use Rattle.sw_core.specs.declared.ask.SessionAnswer.{SessionAnswer}
 use Rattle.sw_core.specs.declared.ask.SessionAnswer.TheVariants.{Done, Refused}
 use Rattle.sw_core.specs.Panel.{Panel, with_cards}
-use Rattle.sw_core.specs.Action.{Effect, TellsText, TellsReadings, ReadsOut, SetsStatus, SetsUp, ClosesListed, OpensListed, TellsRelays, Changes}
+use Rattle.sw_core.specs.SlotTexts.{surety_word, tells_surety}
+use Rattle.sw_core.specs.Action.{Effect, TellsText, TellsReadings, ReadsOut, SetsStatus, SetsUp, ClosesListed, OpensListed, TellsHardware, TellsSurety}
+use Rattle.sw_core.specs.Action.{Changes}
 use Rattle.sw_core.specs.Action.{Resets, reset, Triggers, RefusesWith, IsOfMacros, Initiates}
 use Rattle.sw_core.specs.Seen.{AnswerSeen, SaysSession, SaysFailed}
-use Rattle.sw_core.specs.Step.{StepClose, StepOpen, StepFlags, StepText, StepDone, StepSetting, StepRefused, StepReadings, StepAlone}
+use Rattle.sw_lex.specs.Apart.{same_word}
+use Rattle.sw_core.specs.Step.{IsSurety, StepClose, StepOpen, StepHardware, StepSurety, StepText, StepDone, StepSetting, StepRefused, StepReadings, StepAlone}
 use Rattle.sw_core.proofs.SameLemmas.{sets_once}
 
 -- an answer that tells of no want of memory and of no card's failure
@@ -67,15 +70,15 @@ open_once p chans f f' (Refused HardwareError) a' q q' n m h k = absurd (n.1 ref
 open_once p chans f f' a (Refused HardwareError) q q' n m h k = absurd (m.1 refl)
 open_once p chans f f' a a' q q' n m h k = absurd (assumption (h, k))
 
-pub flags_once : (p : Panel) (closed : Bool) (chans : List Channel) (f f' : Bool) (a a' : SessionAnswer) (q q' : Panel) → IsWhole (SaysSession a None)
-    → IsWhole (SaysSession a' None) → StepFlags p closed chans f a q → StepFlags p closed chans f' a' q' → IsOnce a a' q q'
-flags_once p closed chans f f' (Done (Some t)) (Done (Some t')) q q' n m h k = (same_text t t' _ h.2 k.2, both p q q' h.3 k.3)
-flags_once p closed chans f f' (Done (Some t)) (Refused HardwareMissing) q q' n m h k = absurd (true_false _ h.1 k.1)
-flags_once p closed chans f f' (Refused HardwareMissing) (Done (Some t)) q q' n m h k = absurd (true_false _ k.1 h.1)
-flags_once p closed chans f f' (Refused HardwareMissing) (Refused HardwareMissing) q q' n m h k = (refl, both p q q' h.2 k.2)
-flags_once p closed chans f f' (Refused OutOfMemory) a' q q' n m h k = absurd (n.0 refl)
-flags_once p closed chans f f' a (Refused OutOfMemory) q q' n m h k = absurd (m.0 refl)
-flags_once p closed chans f f' a a' q q' n m h k = absurd (assumption (h, k))
+pub hardware_once : (p : Panel) (there : Bool) (text : List ℕ) (f f' : Bool) (a a' : SessionAnswer) (q q' : Panel) → IsWhole (SaysSession a None)
+    → IsWhole (SaysSession a' None) → StepHardware p there text f a q → StepHardware p there text f' a' q' → IsOnce a a' q q'
+hardware_once p there text f f' (Done (Some t)) (Done (Some t')) q q' n m h k = (same_text t t' _ h.2 k.2, both p q q' h.3 k.3)
+hardware_once p there text f f' (Done (Some t)) (Refused HardwareMissing) q q' n m h k = absurd (true_false _ h.1 k.1)
+hardware_once p there text f f' (Refused HardwareMissing) (Done (Some t)) q q' n m h k = absurd (true_false _ k.1 h.1)
+hardware_once p there text f f' (Refused HardwareMissing) (Refused HardwareMissing) q q' n m h k = (refl, both p q q' h.2 k.2)
+hardware_once p there text f f' (Refused OutOfMemory) a' q q' n m h k = absurd (n.0 refl)
+hardware_once p there text f f' a (Refused OutOfMemory) q q' n m h k = absurd (m.0 refl)
+hardware_once p there text f f' a a' q q' n m h k = absurd (assumption (h, k))
 
 pub text_once : (p : Panel) (text : List ℕ) (s : StatusSeen) (f f' : Bool) (a a' : SessionAnswer) (q q' : Panel) → IsWhole (SaysSession a None)
     → IsWhole (SaysSession a' None) → StepText p text s f a q → StepText p text s f' a' q' → IsOnce a a' q q'
@@ -106,19 +109,42 @@ pub readings_once : (l : List Reading) (p : Panel) (f f' : Bool) (a a' : Session
 readings_once [] p f f' a a' q q' n m h k = refused_once p DataCorruptOrStale f f' a a' q q' h k
 readings_once (r ∷ rs) p f f' a a' q q' n m h k = text_once p (join_with_byte 44 (map reading_text (r ∷ rs))) p.status f f' a a' q q' n m h k
 
+-- one of a card's words is told where it says that it is sure, the other where it doesn't
+word_once : (sure sure' : Bool) → same_word (surety_word sure) (surety_word true) ≡ same_word (surety_word sure') (surety_word true) → sure ≡ sure'
+word_once true true e = refl
+word_once false false e = refl
+word_once true false e = absurd (cc e)
+word_once false true e = absurd (cc e)
+
+word_is : (t : List ℕ) (sure : Bool) → t ≡ surety_word sure → same_word t (surety_word true) ≡ same_word (surety_word sure) (surety_word true)
+word_is t sure e = ap (λ (x : List ℕ). same_word x (surety_word true)) e
+
+known_once : (known : Option (List ℕ)) (t t' : List ℕ) → IsSurety known t → IsSurety known t' → same_word t (surety_word true) ≡ same_word t' (surety_word true)
+    → t ≡ t'
+known_once (Some text) t t' h k s = h ∙ sym k
+known_once None t t' h k s =
+    h.1 ∙ ap surety_word (word_once h.0 k.0 (sym (word_is t h.0 h.1) ∙ s ∙ word_is t' k.0 k.1)) ∙ sym k.1
+
+pub surety_once : (p : Panel) (known : Option (List ℕ)) (f f' : Bool) (a a' : SessionAnswer) (q q' : Panel) → tells_surety a ≡ tells_surety a'
+    → StepSurety p known f a q → StepSurety p known f' a' q' → IsOnce a a' q q'
+surety_once p known f f' (Done (Some t)) (Done (Some t')) q q' s h k =
+    (ap (λ (y : List ℕ). Done (Some y)) (known_once known t t' h.1 k.1 s), both p q q' h.2 k.2)
+surety_once p known f f' a a' q q' s h k = absurd (assumption (h, k))
+
 pub alone_once : (e : Effect) (p : Panel) (f f' : Bool) (a a' : SessionAnswer) (q q' : Panel)
-    → IsWhole (SaysSession a None) → IsWhole (SaysSession a' None) → StepAlone e p f a q → StepAlone e p f' a' q' → IsOnce a a' q q'
-alone_once (TellsText text) p f f' a a' q q' n m h k = text_once p (text p) p.status f f' a a' q q' n m h k
-alone_once (TellsReadings readings) p f f' a a' q q' n m h k = readings_once (readings p) p f f' a a' q q' n m h k
-alone_once (ReadsOut text after) p f f' a a' q q' n m h k = text_once p (text p.status) (after p.status) f f' a a' q q' n m h k
-alone_once (SetsStatus after) p f f' a a' q q' n m h k = done_once (record p { status = after p.status }) f f' a a' q q' h k
-alone_once (SetsUp Fits error after) p f f' a a' q q' n m h k = setting_once p Fits error (after p.settings) f f' a a' q q' h k
-alone_once (ClosesListed chans) p f f' a a' q q' n m h k = close_once p chans f f' a a' q q' n m h k
-alone_once (OpensListed chans) p f f' a a' q q' n m h k = open_once p chans f f' a a' q q' n m h k
-alone_once (TellsRelays closed chans) p f f' a a' q q' n m h k = flags_once p closed chans f f' a a' q q' n m h k
-alone_once (Changes after) p f f' a a' q q' n m h k = done_once (after p) f f' a a' q q' h k
-alone_once Resets p f f' a a' q q' n m h k = done_once (reset p) f f' a a' q q' h k
-alone_once (RefusesWith error) p f f' a a' q q' n m h k = refused_once p error f f' a a' q q' h k
-alone_once IsOfMacros p f f' a a' q q' n m h k = refused_once p UndefinedHeader f f' a a' q q' h k
-alone_once Initiates p f f' a a' q q' n m h k = refused_once p UndefinedHeader f f' a a' q q' h k
-alone_once (Triggers happening error) p f f' a a' q q' n m h k = absurd h
+    → IsWhole (SaysSession a None) → IsWhole (SaysSession a' None) → tells_surety a ≡ tells_surety a' → StepAlone e p f a q → StepAlone e p f' a' q' → IsOnce a a' q q'
+alone_once (TellsText text) p f f' a a' q q' n m s h k = text_once p (text p) p.status f f' a a' q q' n m h k
+alone_once (TellsReadings readings) p f f' a a' q q' n m s h k = readings_once (readings p) p f f' a a' q q' n m h k
+alone_once (ReadsOut text after) p f f' a a' q q' n m s h k = text_once p (text p.status) (after p.status) f f' a a' q q' n m h k
+alone_once (SetsStatus after) p f f' a a' q q' n m s h k = done_once (record p { status = after p.status }) f f' a a' q q' h k
+alone_once (SetsUp Fits error after) p f f' a a' q q' n m s h k = setting_once p Fits error (after p.settings) f f' a a' q q' h k
+alone_once (ClosesListed chans) p f f' a a' q q' n m s h k = close_once p chans f f' a a' q q' n m h k
+alone_once (OpensListed chans) p f f' a a' q q' n m s h k = open_once p chans f f' a a' q q' n m h k
+alone_once (TellsHardware there text) p f f' a a' q q' n m s h k = hardware_once p (there p) (text p) f f' a a' q q' n m h k
+alone_once (TellsSurety known) p f f' a a' q q' n m s h k = surety_once p (known p) f f' a a' q q' s h k
+alone_once (Changes after) p f f' a a' q q' n m s h k = done_once (after p) f f' a a' q q' h k
+alone_once Resets p f f' a a' q q' n m s h k = done_once (reset p) f f' a a' q q' h k
+alone_once (RefusesWith error) p f f' a a' q q' n m s h k = refused_once p error f f' a a' q q' h k
+alone_once IsOfMacros p f f' a a' q q' n m s h k = refused_once p UndefinedHeader f f' a a' q q' h k
+alone_once Initiates p f f' a a' q q' n m s h k = refused_once p UndefinedHeader f f' a a' q q' h k
+alone_once (Triggers happening error) p f f' a a' q q' n m s h k = absurd h

@@ -17,6 +17,7 @@ use Rattle.sw_core.specs.Seen.{WorkSeen, SaysSession}
 use Rattle.sw_core.specs.Step.{StepRefused, StepEffect, StepHeld, StepAction}
 use Rattle.sw_core.specs.Step.{session_told, work_of, started_answer, StepHappens, RefusesScan, MayScan, snapshot_of, StepSnapshot, IsStarted, StepStart}
 use Rattle.sw_core.proofs.GoingLemmas.{happens_once, starts_once}
+use Rattle.sw_core.specs.SlotTexts.{tells_surety}
 use Rattle.sw_core.proofs.OneCommandLemmas.{IsWhole, IsOnce, both, true_false, refused_once, alone_once}
 
 abbrev pub IsAlike : SessionAnswer → SessionAnswer → Option WorkSeen → Option WorkSeen → Panel → Panel → Type 0
@@ -42,10 +43,10 @@ happening_once p happening error f f' a a' w w' q q' n m h k =
     (h.answer_is ∙ ap (λ (x : TakenSeen). session_told error x) r.0 ∙ sym k.answer_is, h.work_is ∙ ap (λ (x : TakenSeen). work_of x) r.0 ∙ sym k.work_is, r.1)
 
 pub effect_once : (e : Effect) (p : Panel) (f f' : Bool) (a a' : SessionAnswer) (w w' : Option WorkSeen) (q q' : Panel)
-    → IsWhole (SaysSession a None) → IsWhole (SaysSession a' None) → StepEffect e p f a w q → StepEffect e p f' a' w' q' → IsAlike a a' w w' q q'
-effect_once (Triggers happening error) p f f' a a' w w' q q' n m h k = happening_once p happening error f f' a a' w w' q q' n m h k
-effect_once e p f f' a a' w w' q q' n m h k =
-    let r = alone_once e p f f' a a' q q' n m h.0 k.0 in
+    → IsWhole (SaysSession a None) → IsWhole (SaysSession a' None) → tells_surety a ≡ tells_surety a' → StepEffect e p f a w q → StepEffect e p f' a' w' q' → IsAlike a a' w w' q q'
+effect_once (Triggers happening error) p f f' a a' w w' q q' n m s h k = happening_once p happening error f f' a a' w w' q q' n m h k
+effect_once e p f f' a a' w w' q q' n m s h k =
+    let r = alone_once e p f f' a a' q q' n m s h.0 k.0 in
     (r.0, h.1 ∙ sym k.1, r.1)
 
 pub held_once : (p : Panel) (ask : SessionAsk) (f f' : Bool) (a a' : SessionAnswer) (w w' : Option WorkSeen) (q q' : Panel)
@@ -61,18 +62,18 @@ either_alike true A B A' B' a a' w w' q q' x y h k = x h k
 either_alike false A B A' B' a a' w w' q q' x y h k = y h k
 
 pub action_once : (x : Action) (p : Panel) (ask : SessionAsk) (f f' : Bool) (a a' : SessionAnswer) (w w' : Option WorkSeen) (q q' : Panel)
-    → IsWhole (SaysSession a None) → IsWhole (SaysSession a' None) → StepAction x p ask f a w q → StepAction x p ask f' a' w' q' → IsAlike a a' w w' q q'
-action_once (AtOnce e) p ask f f' a a' w w' q q' n m h k = effect_once e p f f' a a' w w' q q' n m h k
-action_once (BetweenScans e) p ask f f' a a' w w' q q' n m h k =
+    → IsWhole (SaysSession a None) → IsWhole (SaysSession a' None) → tells_surety a ≡ tells_surety a' → StepAction x p ask f a w q → StepAction x p ask f' a' w' q' → IsAlike a a' w w' q q'
+action_once (AtOnce e) p ask f f' a a' w w' q q' n m s h k = effect_once e p f f' a a' w w' q q' n m s h k
+action_once (BetweenScans e) p ask f f' a a' w w' q q' n m s h k =
     either_alike (is_running p) (λ a w q. StepRefused p SettingsConflict f a q × (w ≡ None)) (λ a w q. StepEffect e p f a w q)
     (λ a w q. StepRefused p SettingsConflict f' a q × (w ≡ None)) (λ a w q. StepEffect e p f' a w q) a a' w w' q q'
     (λ x y. (let r = refused_once p SettingsConflict f f' a a' q q' x.0 y.0 in (r.0, x.1 ∙ sym y.1, r.1)))
-    (λ x y. effect_once e p f f' a a' w w' q q' n m x y) h k
-action_once (AfterScan e) p ask f f' a a' w w' q q' n m h k =
+    (λ x y. effect_once e p f f' a a' w w' q q' n m s x y) h k
+action_once (AfterScan e) p ask f f' a a' w w' q q' n m s h k =
     either_alike (is_running p) (λ a w q. StepHeld p ask f a w q) (λ a w q. StepEffect e p f a w q)
     (λ a w q. StepHeld p ask f' a w q) (λ a w q. StepEffect e p f' a w q) a a' w w' q q'
     (λ x y. held_once p ask f f' a a' w w' q q' x y)
-    (λ x y. effect_once e p f f' a a' w w' q q' n m x y) h k
+    (λ x y. effect_once e p f f' a a' w w' q q' n m s x y) h k
 
 -- no two refusals of a scan apply, nor one where a scan may begin
 pub refusal_once : (p : Panel) (e e' : ScpiError) → RefusesScan p e → RefusesScan p e' → e ≡ e'

@@ -19,6 +19,7 @@ use Rattle.sw_core.specs.Seen.{WorkSeen, SaysSession}
 use Rattle.sw_core.specs.Step.{StepAdmitted, StepAttach, StepNew, IsServed}
 use Rattle.sw_core.specs.Step.{StepJoin, StepJoined, StepSession}
 use Rattle.sw_core.specs.Step.{Admission, Dropped, ShutOut, Admitted, admission}
+use Rattle.sw_core.specs.SlotTexts.{tells_surety}
 use Rattle.sw_core.proofs.OneCommandLemmas.{IsWhole, both}
 use Rattle.sw_core.proofs.OneScanLemmas.{IsAlike, happening_once, held_once, action_once, snapshot_once, start_once}
 
@@ -66,36 +67,36 @@ fault_none p sid e f (Done None) w q h = h
 fault_none p sid e f a w q h = h
 
 pub joined_once : (p : Panel) (ask : SessionAsk) (f f' : Bool) (a a' : SessionAnswer) (w w' : Option WorkSeen) (q q' : Panel) → IsWhole (SaysSession a None)
-    → IsWhole (SaysSession a' None) → FindsKey p.sessions ask a → FindsKey p.sessions ask a' → StepJoined p ask f a w q → StepJoined p ask f' a' w' q'
+    → IsWhole (SaysSession a' None) → tells_surety a ≡ tells_surety a' → FindsKey p.sessions ask a → FindsKey p.sessions ask a' → StepJoined p ask f a w q → StepJoined p ask f' a' w' q'
     → IsAlike a a' w w' q q'
-joined_once p (Ask.Fault sid e) f f' a a' None None q q' n m x y h k = fault_once p sid e f f' a a' q q' h k
-joined_once p (Ask.Fault sid e) f f' a a' (Some w) w' q q' n m x y h k = absurd (fault_none p sid e f a w q h)
-joined_once p (Ask.Fault sid e) f f' a a' None (Some w) q q' n m x y h k = absurd (fault_none p sid e f' a' w q' k)
-joined_once p (Ask.Unit sid command available) f f' a a' w w' q q' n m x y h k =
-    action_once (action_of available command) p (Ask.Unit sid command available) f f' a a' w w' q q' n m h k
-joined_once p (Ask.Bus sid) f f' a a' w w' q q' n m x y h k = happening_once p Bus TriggerIgnored f f' a a' w w' q q' n m h k
-joined_once p (Ask.Snapshot sid) f f' a a' None None q q' n m x y h k = let r = snapshot_once p f f' a a' q q' n m h k in (r.0, refl, r.1)
-joined_once p (Ask.Start sid plan) f f' a a' w w' q q' n m x y h k = start_once p plan f f' a a' w w' q q' n m h k
-joined_once p (Ask.Attached sid) f f' b b' None None q q' n m x y h k = served_once p (Ask.Attached sid) f f' b b' q q' x y h k
-joined_once p (Ask.Leave sid) f f' b b' None None q q' n m x y h k = served_once p (Ask.Leave sid) f f' b b' q q' x y h k
-joined_once p (Ask.Size sid size) f f' b b' None None q q' n m x y h k = served_once p (Ask.Size sid size) f f' b b' q q' x y h k
-joined_once p (Ask.MaxSize sid) f f' b b' None None q q' n m x y h k = served_once p (Ask.MaxSize sid) f f' b b' q q' x y h k
-joined_once p (Ask.Clear sid) f f' b b' None None q q' n m x y h k = served_once p (Ask.Clear sid) f f' b b' q q' x y h k
-joined_once p (Ask.Cleared sid) f f' b b' None None q q' n m x y h k = served_once p (Ask.Cleared sid) f f' b b' q q' x y h k
-joined_once p (Ask.Lock sid key) f f' b b' None None q q' n m x y h k = served_once p (Ask.Lock sid key) f f' b b' q q' x y h k
-joined_once p (Ask.Release sid) f f' b b' None None q q' n m x y h k = served_once p (Ask.Release sid) f f' b b' q q' x y h k
-joined_once p (Ask.LockInfo sid) f f' b b' None None q q' n m x y h k = served_once p (Ask.LockInfo sid) f f' b b' q q' x y h k
-joined_once p Ask.Join f f' a a' None None q q' n m x y h k = served_once p Ask.Join f f' a a' q q' x y h k
-joined_once p (Ask.Attach number) f f' a a' None None q q' n m x y h k = served_once p (Ask.Attach number) f f' a a' q q' x y h k
-joined_once p ask f f' a a' w w' q q' n m x y h k = absurd (assumption (h, k))
+joined_once p (Ask.Fault sid e) f f' a a' None None q q' n m s x y h k = fault_once p sid e f f' a a' q q' h k
+joined_once p (Ask.Fault sid e) f f' a a' (Some w) w' q q' n m s x y h k = absurd (fault_none p sid e f a w q h)
+joined_once p (Ask.Fault sid e) f f' a a' None (Some w) q q' n m s x y h k = absurd (fault_none p sid e f' a' w q' k)
+joined_once p (Ask.Unit sid command available) f f' a a' w w' q q' n m s x y h k =
+    action_once (action_of available command) p (Ask.Unit sid command available) f f' a a' w w' q q' n m s h k
+joined_once p (Ask.Bus sid) f f' a a' w w' q q' n m s x y h k = happening_once p Bus TriggerIgnored f f' a a' w w' q q' n m h k
+joined_once p (Ask.Snapshot sid) f f' a a' None None q q' n m s x y h k = let r = snapshot_once p f f' a a' q q' n m h k in (r.0, refl, r.1)
+joined_once p (Ask.Start sid plan) f f' a a' w w' q q' n m s x y h k = start_once p plan f f' a a' w w' q q' n m h k
+joined_once p (Ask.Attached sid) f f' b b' None None q q' n m s x y h k = served_once p (Ask.Attached sid) f f' b b' q q' x y h k
+joined_once p (Ask.Leave sid) f f' b b' None None q q' n m s x y h k = served_once p (Ask.Leave sid) f f' b b' q q' x y h k
+joined_once p (Ask.Size sid size) f f' b b' None None q q' n m s x y h k = served_once p (Ask.Size sid size) f f' b b' q q' x y h k
+joined_once p (Ask.MaxSize sid) f f' b b' None None q q' n m s x y h k = served_once p (Ask.MaxSize sid) f f' b b' q q' x y h k
+joined_once p (Ask.Clear sid) f f' b b' None None q q' n m s x y h k = served_once p (Ask.Clear sid) f f' b b' q q' x y h k
+joined_once p (Ask.Cleared sid) f f' b b' None None q q' n m s x y h k = served_once p (Ask.Cleared sid) f f' b b' q q' x y h k
+joined_once p (Ask.Lock sid key) f f' b b' None None q q' n m s x y h k = served_once p (Ask.Lock sid key) f f' b b' q q' x y h k
+joined_once p (Ask.Release sid) f f' b b' None None q q' n m s x y h k = served_once p (Ask.Release sid) f f' b b' q q' x y h k
+joined_once p (Ask.LockInfo sid) f f' b b' None None q q' n m s x y h k = served_once p (Ask.LockInfo sid) f f' b b' q q' x y h k
+joined_once p Ask.Join f f' a a' None None q q' n m s x y h k = served_once p Ask.Join f f' a a' q q' x y h k
+joined_once p (Ask.Attach number) f f' a a' None None q q' n m s x y h k = served_once p (Ask.Attach number) f f' a a' q q' x y h k
+joined_once p ask f f' a a' w w' q q' n m s x y h k = absurd (assumption (h, k))
 
 pub admitted_once : (now : Admission) (p : Panel) (ask : SessionAsk) (f f' : Bool) (a a' : SessionAnswer) (w w' : Option WorkSeen) (q q' : Panel)
-    → IsWhole (SaysSession a None) → IsWhole (SaysSession a' None) → FindsKey p.sessions ask a → FindsKey p.sessions ask a' → StepAdmitted now p ask f a w q
+    → IsWhole (SaysSession a None) → IsWhole (SaysSession a' None) → tells_surety a ≡ tells_surety a' → FindsKey p.sessions ask a → FindsKey p.sessions ask a' → StepAdmitted now p ask f a w q
     → StepAdmitted now p ask f' a' w' q' → IsAlike a a' w w' q q'
-admitted_once Dropped p ask f f' Broken Broken None None q q' n m x y h k = (refl, refl, both p q q' h.1 k.1)
-admitted_once Dropped p ask f f' a a' w w' q q' n m x y h k = absurd (assumption (h, k))
-admitted_once ShutOut p ask f f' a a' w w' q q' n m x y h k = held_once p ask f f' a a' w w' q q' h k
-admitted_once Admitted p ask f f' a a' w w' q q' n m x y h k = joined_once p ask f f' a a' w w' q q' n m x y h k
+admitted_once Dropped p ask f f' Broken Broken None None q q' n m s x y h k = (refl, refl, both p q q' h.1 k.1)
+admitted_once Dropped p ask f f' a a' w w' q q' n m s x y h k = absurd (assumption (h, k))
+admitted_once ShutOut p ask f f' a a' w w' q q' n m s x y h k = held_once p ask f f' a a' w w' q q' h k
+admitted_once Admitted p ask f f' a a' w w' q q' n m s x y h k = joined_once p ask f f' a a' w w' q q' n m s x y h k
 
 pub attach_once : (p : Panel) (number : ℕ) (f f' : Bool) (a a' : SessionAnswer) (w w' : Option WorkSeen) (q q' : Panel) → StepAttach p number f a w q
     → StepAttach p number f' a' w' q' → IsAlike a a' w w' q q'
@@ -128,14 +129,14 @@ session_as p sid ask f Stranger None q h = inl (h.1, refl, refl, h.2)
 session_as p sid ask f a w q h = inr h
 
 pub session_once : (o : Option Sid) (p : Panel) (ask : SessionAsk) (f f' : Bool) (a a' : SessionAnswer) (w w' : Option WorkSeen) (q q' : Panel)
-    → IsWhole (SaysSession a None) → IsWhole (SaysSession a' None) → FindsKey p.sessions ask a → FindsKey p.sessions ask a' → StepSession o p ask f a w q
+    → IsWhole (SaysSession a None) → IsWhole (SaysSession a' None) → tells_surety a ≡ tells_surety a' → FindsKey p.sessions ask a → FindsKey p.sessions ask a' → StepSession o p ask f a w q
     → StepSession o p ask f' a' w' q' → IsAlike a a' w w' q q'
-session_once None p ask f f' a a' w w' q q' n m kx ky h k = new_once p ask f f' a a' w w' q q' h k
-session_once (Some sid) p ask f f' a a' w w' q q' n m kx ky h k = elim (session_as p sid ask f a w q h) [
+session_once None p ask f f' a a' w w' q q' n m s kx ky h k = new_once p ask f f' a a' w w' q q' h k
+session_once (Some sid) p ask f f' a a' w w' q q' n m s kx ky h k = elim (session_as p sid ask f a w q h) [
   | inl x ↦ elim (session_as p sid ask f' a' w' q' k) [ inl y ↦ (x.1 ∙ sym y.1, x.2 ∙ sym y.2, both p q q' x.3 y.3) | inr y ↦ absurd (x.0 y.0) ]
   | inr x ↦ elim (session_as p sid ask f' a' w' q' k) [
     | inl y ↦ absurd (y.0 x.0)
     | inr y ↦
-        admitted_once (admission p sid ask) p ask f f' a a' w w' q q' n m kx ky x.1 y.1
+        admitted_once (admission p sid ask) p ask f f' a a' w w' q q' n m s kx ky x.1 y.1
   ]
 ]

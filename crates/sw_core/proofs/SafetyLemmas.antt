@@ -37,13 +37,14 @@ use Rattle.sw_core.specs.declared.ask.SessionAnswer.{SessionAnswer}
 use Rattle.sw_core.specs.declared.ask.SessionAnswer.TheVariants as answers
 use Rattle.sw_core.specs.declared.ask.SessionAnswer.TheVariants.{Joined, Full, Stranger, Broken, Done, Refused, Hold, Worn}
 use Rattle.sw_core.specs.Panel.{Panel, opening_at, with_cards, is_running}
-use Rattle.sw_core.specs.Action.{Effect, TellsText, TellsReadings, ReadsOut, SetsStatus, SetsUp, ClosesListed, OpensListed, TellsRelays, Changes}
+use Rattle.sw_core.specs.Action.{Effect, TellsText, TellsReadings, ReadsOut, SetsStatus, SetsUp, ClosesListed, OpensListed, TellsHardware, TellsSurety}
+use Rattle.sw_core.specs.Action.{Changes}
 use Rattle.sw_core.specs.Action.{Resets, reset, Triggers, RefusesWith, IsOfMacros, Initiates, Action, AtOnce, BetweenScans, AfterScan, action_of}
 use Rattle.sw_core.specs.Event.{concluded, session_concluded, last_number}
 use Rattle.sw_core.specs.Seen.{WorkSeen, AskSeen, AskSession, AskInstall, AskEject, AskExternal, AskElapsed, AskFinished, AnswerSeen, SaysSession}
 use Rattle.sw_core.specs.Seen.{SaysInstalled, SaysNotInstalled, SaysEjected, SaysNotEjected, SaysTaken, SaysMissed, SaysFailed, SaysBack, SaysWorn}
 use Rattle.sw_core.specs.Seats.{asker_of}
-use Rattle.sw_core.specs.Step.{FailsSafe, StepClose, StepOpen, StepFlags, StepText, StepDone, StepSetting, StepRefused, StepReadings, StepAlone, StepEffect}
+use Rattle.sw_core.specs.Step.{FailsSafe, StepClose, StepOpen, StepHardware, StepSurety, StepText, StepDone, StepSetting, StepRefused, StepReadings, StepAlone, StepEffect}
 use Rattle.sw_core.specs.Step.{StepHeld, StepAction}
 use Rattle.sw_core.specs.Step.{Happens, MayScan, StepSnapshot, Starts, StepStart, StepJoin, StepAttach, StepNew, IsServed, StepJoined, StepAdmitted}
 use Rattle.sw_core.specs.Step.{StepSession, StepOutside, IsOut, Returns, StepFinished, Acts, acts_unnumbered, IsEvent, IsUnnumbered, Step}
@@ -117,12 +118,16 @@ open_fine p chans f (Refused HardwareMissing) q k i h = fine_is p q h.2 k
 open_fine p chans f (Refused HardwareError) q k i h = falling_fine p q k i h.2
 open_fine p chans f a q k i h = absurd h
 
-flags_fine : (p : Panel) (closed : Bool) (chans : List Channel) (f : Bool) (a : SessionAnswer) (q : Panel) → IsFine p → StepFlags p closed chans f a q
+hardware_fine : (p : Panel) (there : Bool) (text : List ℕ) (f : Bool) (a : SessionAnswer) (q : Panel) → IsFine p → StepHardware p there text f a q
     → IsFine q
-flags_fine p closed chans f (Done (Some text)) q k h = fine_is p q h.3 k
-flags_fine p closed chans f (Refused HardwareMissing) q k h = fine_is p q h.2 k
-flags_fine p closed chans f (Refused OutOfMemory) q k h = fine_is p q h.2 k
-flags_fine p closed chans f a q k h = absurd h
+hardware_fine p there text f (Done (Some t)) q k h = fine_is p q h.3 k
+hardware_fine p there text f (Refused HardwareMissing) q k h = fine_is p q h.2 k
+hardware_fine p there text f (Refused OutOfMemory) q k h = fine_is p q h.2 k
+hardware_fine p there text f a q k h = absurd h
+
+surety_fine : (p : Panel) (known : Option (List ℕ)) (f : Bool) (a : SessionAnswer) (q : Panel) → IsFine p → StepSurety p known f a q → IsFine q
+surety_fine p known f (Done (Some t)) q k h = fine_is p q h.2 k
+surety_fine p known f a q k h = absurd h
 
 text_fine : (p : Panel) (text : List ℕ) (status : StatusSeen) (f : Bool) (a : SessionAnswer) (q : Panel) → IsFine p → IsStatus status
     → StepText p text status f a q → IsFine q
@@ -165,7 +170,8 @@ alone_fine (SetsStatus after) p f a q k n h =
 alone_fine (SetsUp Fits error after) p f a q k n h = setting_fine p Fits error (after p.settings) f a q k n.2 n.0 h
 alone_fine (ClosesListed chans) p f a q k n h = close_fine p chans f a q k n h
 alone_fine (OpensListed chans) p f a q k n h = open_fine p chans f a q k n h
-alone_fine (TellsRelays closed chans) p f a q k n h = flags_fine p closed chans f a q k h
+alone_fine (TellsHardware there text) p f a q k n h = hardware_fine p (there p) (text p) f a q k h
+alone_fine (TellsSurety known) p f a q k n h = surety_fine p (known p) f a q k h
 alone_fine Resets p f a q k n h =
     done_fine (reset p) f a q (record {
       cage = dropped (safe_state p.cage) (fallen_all p.cage k.cage) refl;

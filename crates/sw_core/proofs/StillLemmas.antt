@@ -1,5 +1,5 @@
 -- What a command does to a scan that runs: nothing, or it stops it.
-use Rattle.std.proofs.Common.{◌≡◌, ℕ, Bool, true, false, List, [], ◌∷◌, None, Some}
+use Rattle.std.proofs.Common.{◌≡◌, ℕ, Bool, true, false, List, [], ◌∷◌, Option, None, Some}
 use Rattle.std.proofs.Common.{◌⊎◌, inl, inr, refl, ap, sym, subst, ◌∙◌, map}
 use Rattle.std.specs.List.{join_with_byte}
 use Rattle.sw_base.specs.Reading.{reading_text}
@@ -10,6 +10,7 @@ use Rattle.sw_base.specs.declared.error.ScpiError.TheVariants.{UndefinedHeader, 
 use Rattle.sw_base.specs.declared.error.ScpiError.TheVariants.{SettingsConflict, HardwareError}
 use Rattle.sw_base.specs.declared.terms.LayerName.TheVariants as layer_name
 use Rattle.sw_lex.specs.declared.command.Command.{Command}
+use Rattle.sw_lex.specs.declared.command.SlotQuery.{SlotQuery}
 use Rattle.sw_lex.specs.declared.command.Plain.{Plain}
 use Rattle.sw_lex.specs.declared.command.Channels.{Channels}
 use Rattle.sw_trigger.specs.Settings.{SettingsSeen}
@@ -22,9 +23,10 @@ use Rattle.sw_core.specs.declared.ask.SessionAsk.TheVariants as Ask
 use Rattle.sw_core.specs.declared.ask.SessionAnswer.{SessionAnswer}
 use Rattle.sw_core.specs.declared.ask.SessionAnswer.TheVariants.{Done, Refused}
 use Rattle.sw_core.specs.Panel.{Panel, is_running}
-use Rattle.sw_core.specs.Action.{Effect, TellsText, TellsReadings, ReadsOut, SetsStatus, SetsUp, ClosesListed, OpensListed, TellsRelays, Changes}
+use Rattle.sw_core.specs.Action.{Effect, TellsText, TellsReadings, ReadsOut, SetsStatus, SetsUp, ClosesListed, OpensListed, TellsHardware, TellsSurety}
+use Rattle.sw_core.specs.Action.{Changes}
 use Rattle.sw_core.specs.Action.{Resets, reset, Triggers, RefusesWith, IsOfMacros, Initiates, Action, AtOnce, BetweenScans, AfterScan, action_of}
-use Rattle.sw_core.specs.Step.{StepClose, StepOpen, StepFlags, StepText, StepDone, StepSetting, StepRefused, StepReadings, StepAlone}
+use Rattle.sw_core.specs.Step.{StepClose, StepOpen, StepHardware, StepSurety, StepText, StepDone, StepSetting, StepRefused, StepReadings, StepAlone}
 use Rattle.sw_core.specs.Taken.{went_on}
 use Rattle.sw_core.specs.Ends.{breaks_off}
 use Rattle.sw_core.specs.Seen.{AskSeen, AskSession, AnswerSeen, SaysSession}
@@ -61,7 +63,8 @@ IsStillEffect off p (SetsStatus after) = Unit {0}
 IsStillEffect off p (SetsUp Fits error after) = Unit {0}
 IsStillEffect off p (ClosesListed chans) = p.cage.scan ≡ None
 IsStillEffect off p (OpensListed chans) = p.cage.scan ≡ None
-IsStillEffect off p (TellsRelays closed chans) = Unit {0}
+IsStillEffect off p (TellsHardware there text) = Unit {0}
+IsStillEffect off p (TellsSurety known) = Unit {0}
 IsStillEffect off p (Changes after) = IsStill off p (after p)
 IsStillEffect off p Resets = off ≡ true
 IsStillEffect off p (Triggers happening error) = went_on (Refused error) ≡ 0
@@ -95,6 +98,9 @@ still_command sid p available (Command.Plain Plain.Read) = tt
 still_command sid p available (Command.Query query) = tt
 still_command sid p available (Command.LayerQuery query layer) = tt
 still_command sid p available (Command.GroupQuery query group) = tt
+still_command sid p available (Command.SlotQuery SlotQuery.Kind slot) = tt
+still_command sid p available (Command.SlotQuery SlotQuery.Groups slot) = tt
+still_command sid p available (Command.SlotQuery SlotQuery.State slot) = tt
 still_command sid p available (Command.ReadOut read) = tt
 still_command sid p available (Command.Signal layer_name.Trigger) = refl
 still_command sid p available (Command.Signal (layer_name.Arm arm)) = refl
@@ -126,12 +132,17 @@ still_open p chans f (Refused HardwareMissing) q i h = still_as p q h.2
 still_open p chans f (Refused HardwareError) q i h = still_idle p q i (ap (λ (x : Panel). x.cage.scan) h.2.1) (ap (λ (x : Panel). x.cage.readings) h.2.1)
 still_open p chans f a q i h = absurd h
 
-still_flags : {off : Bool} (p : Panel) (closed : Bool) (chans : List Channel) (f : Bool) (a : SessionAnswer) (q : Panel) → StepFlags p closed chans f a q
+still_hardware : {off : Bool} (p : Panel) (there : Bool) (text : List ℕ) (f : Bool) (a : SessionAnswer) (q : Panel) → StepHardware p there text f a q
     → IsStill off p q
-still_flags p closed chans f (Done (Some text)) q h = still_as p q h.3
-still_flags p closed chans f (Refused HardwareMissing) q h = still_as p q h.2
-still_flags p closed chans f (Refused OutOfMemory) q h = still_as p q h.2
-still_flags p closed chans f a q h = absurd h
+still_hardware p there text f (Done (Some t)) q h = still_as p q h.3
+still_hardware p there text f (Refused HardwareMissing) q h = still_as p q h.2
+still_hardware p there text f (Refused OutOfMemory) q h = still_as p q h.2
+still_hardware p there text f a q h = absurd h
+
+still_surety : {off : Bool} (p : Panel) (known : Option (List ℕ)) (f : Bool) (a : SessionAnswer) (q : Panel) → StepSurety p known f a q
+    → IsStill off p q
+still_surety p known f (Done (Some t)) q h = still_as p q h.2
+still_surety p known f a q h = absurd h
 
 still_text : {off : Bool} (p : Panel) (text : List ℕ) (status : StatusSeen) (f : Bool) (a : SessionAnswer) (q : Panel) → StepText p text status f a q
     → IsStill off p q
@@ -172,7 +183,8 @@ still_alone ask (SetsStatus after) p f a q n h = still_done p (record p { status
 still_alone ask (SetsUp Fits error after) p f a q n h = still_setting p Fits error (after p.settings) f a q h
 still_alone ask (ClosesListed chans) p f a q n h = still_close p chans f a q n h
 still_alone ask (OpensListed chans) p f a q n h = still_open p chans f a q n h
-still_alone ask (TellsRelays closed chans) p f a q n h = still_flags p closed chans f a q h
+still_alone ask (TellsHardware there text) p f a q n h = still_hardware p (there p) (text p) f a q h
+still_alone ask (TellsSurety known) p f a q n h = still_surety p (known p) f a q h
 still_alone ask (Changes after) p f a q n h = still_done p (after p) f a q (λ e. subst (λ (b : Bool). IsStill b p (after p)) (off_as ask a e) n) h
 still_alone ask Resets p f a q n h = still_done p (reset p) f a q (λ e. inr (inr (sym (off_as ask a e) ∙ n, refl, all_open_closed p.cage.cards, inr refl))) h
 still_alone ask (RefusesWith error) p f a q n h = still_refused p error f a q h

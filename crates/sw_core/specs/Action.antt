@@ -1,5 +1,7 @@
 -- What each command comes to: one row for each family of commands, and one for each query in what it tells.
-use Rattle.std.specs.Prelude.{ℕ, ◌≤◌, ◌==◌, ◌&&◌, Bool, true, false, List, [], length, decimal, if◌then◌else◌}
+use Rattle.std.specs.Prelude.{ℕ, ◌≤◌, ◌==◌, ◌&&◌, Bool, true, false, List, [], length, decimal, map, Option}
+use Rattle.std.specs.Prelude.{if◌then◌else◌}
+use Rattle.std.specs.List.{join_with_byte}
 use Rattle.sw_base.specs.Layout.{Channel}
 use Rattle.sw_base.specs.Limits.{most_slots, most_entries, most_points, longest_delay}
 use Rattle.sw_base.specs.Reading.{fixed}
@@ -17,6 +19,7 @@ use Rattle.sw_lex.specs.declared.command.Plain.{Plain}
 use Rattle.sw_lex.specs.declared.command.PlainQuery.{PlainQuery}
 use Rattle.sw_lex.specs.declared.command.LayerQuery.{LayerQuery}
 use Rattle.sw_lex.specs.declared.command.GroupQuery.{GroupQuery}
+use Rattle.sw_lex.specs.declared.command.SlotQuery.{SlotQuery}
 use Rattle.sw_lex.specs.declared.command.StatusRead.{StatusRead}
 use Rattle.sw_lex.specs.declared.command.Channels.{Channels}
 use Rattle.sw_lex.specs.declared.command.Time.{Time}
@@ -28,15 +31,18 @@ use Rattle.sw_trigger.specs.Counts.{bound_of}
 use Rattle.sw_status.specs.Registers.{GroupSeen, event_taken, with_enable, with_ptr, with_ntr}
 use Rattle.sw_status.specs.StatusModel.{StatusSeen, byte_of, enabled, preset, popped, cleared}
 use Rattle.sw_status.specs.StatusModel.{registers_of, with_group}
-use Rattle.sw_cage.specs.Accounts.{all_open}
+use Rattle.sw_cage.specs.Accounts.{all_open, is_closed}
 use Rattle.sw_cage.specs.Channels.{closed_list}
 use Rattle.sw_cage.specs.Cage.{safe_state}
 use Rattle.sw_cage.specs.declared.taken.Happening.{Happening}
 use Rattle.sw_cage.specs.declared.taken.Happening.TheVariants.{Bus, Signal}
 use Rattle.sw_core.specs.Answers.{identity_text, version, oldest_entry, all_entries, source_word}
-use Rattle.sw_core.specs.Panel.{Panel, with_cards}
+use Rattle.sw_core.specs.Answers.{yes_or_no, as_asked}
+use Rattle.sw_core.specs.SlotTexts.{kind_text, has_relays, groups_text, known_state}
+use Rattle.sw_core.specs.Panel.{Panel, with_cards, has_all}
 use Rattle.sw_core.specs.Registers.{card_fault_cleared}
 use Rattle.sw_core.specs.Checking.{check_text}
+use Rattle.sw_core.specs.ScanChecking.{scan_check_text}
 
 -- what a command does when it is carried out
 pub data Effect : Type 1 where
@@ -50,10 +56,13 @@ pub data Effect : Type 1 where
   SetsStatus : (after : StatusSeen → StatusSeen) → Effect
   -- it changes the settings where they fit then, and is else refused by this error
   SetsUp : (Fits : Type 0) → (error : ScpiError) → (after : SettingsSeen → SettingsSeen) → Effect
-  -- it closes channels, or opens them, or tells for each whether it is closed, or open
+  -- it closes channels, or opens them
   ClosesListed : (chans : List Channel) → Effect
   OpensListed : (chans : List Channel) → Effect
-  TellsRelays : (closed : Bool) → (chans : List Channel) → Effect
+  -- it tells a text of hardware, and is refused by -241 where that isn't there
+  TellsHardware : (there : Panel → Bool) → (text : Panel → List ℕ) → Effect
+  -- it tells a card's own word, whether it is sure of its relays; or the text that is known without asking the card
+  TellsSurety : (known : Panel → Option (List ℕ)) → Effect
   -- it leaves this state
   Changes : (after : Panel → Panel) → Effect
   -- it resets the mainframe
@@ -120,6 +129,7 @@ query_text available PlainQuery.Version p = version
 query_text available PlainQuery.Points p = decimal p.settings.points
 query_text available PlainQuery.ActualPoints p = decimal (length p.cage.readings)
 query_text available PlainQuery.Bound p = decimal (bound_of p.settings)
+query_text available PlainQuery.ScanCheck p = scan_check_text p
 
 -- the readings of the scan with this number, where it made so many, and no scan began since
 abbrev pub readings_of_scan : ℕ → ℕ → Panel → List Reading
@@ -224,13 +234,24 @@ plain_action Plain.Preset = AtOnce (SetsStatus preset)
 plain_action Plain.Fetch = AtOnce (TellsReadings (λ p. p.cage.readings))
 plain_action Plain.Read = AtOnce Initiates
 
+-- for each channel whether it is closed, or open, joined by commas
+abbrev pub flags_text : Bool → List Channel → Panel → List ℕ
+flags_text closed chans p =
+    join_with_byte 44 (map (λ c. yes_or_no (as_asked closed (is_closed p.cage.cards c))) chans)
+
 -- what a command with a channel list comes to
 abbrev pub channels_action : Channels → List Channel → Action
 channels_action Channels.Close chans = BetweenScans (ClosesListed chans)
-channels_action Channels.CloseQuery chans = AtOnce (TellsRelays true chans)
+channels_action Channels.CloseQuery chans = AtOnce (TellsHardware (λ p. has_all p chans) (flags_text true chans))
 channels_action Channels.Open chans = BetweenScans (OpensListed chans)
-channels_action Channels.OpenQuery chans = AtOnce (TellsRelays false chans)
+channels_action Channels.OpenQuery chans = AtOnce (TellsHardware (λ p. has_all p chans) (flags_text false chans))
 channels_action Channels.CloseCheck chans = AtOnce (TellsText (check_text chans))
+
+-- what a query of a slot comes to
+abbrev pub slot_action : SlotQuery → ℕ → Action
+slot_action SlotQuery.Kind slot = AtOnce (TellsText (kind_text slot))
+slot_action SlotQuery.Groups slot = AtOnce (TellsHardware (has_relays slot) (groups_text slot))
+slot_action SlotQuery.State slot = AtOnce (TellsSurety (known_state slot))
 
 -- what a setting of scans comes to
 abbrev pub setting_action : Setting → Action
@@ -250,6 +271,7 @@ action_of available (Command.LayerQuery query layer) =
     AtOnce (TellsText (λ p. layer_text query (layer_of p.settings layer)))
 action_of available (Command.GroupQuery query group) =
     AtOnce (TellsText (λ p. group_text query (registers_of p.status group)))
+action_of available (Command.SlotQuery query slot) = slot_action query slot
 action_of available (Command.ReadOut read) = AtOnce (ReadsOut (read_text read) (without_read read))
 action_of available (Command.Signal layer) = AtOnce (Triggers (Signal layer) (ignored_at layer))
 action_of available (Command.Continuous on) = continuous_action on

@@ -8,9 +8,17 @@ use Rattle.sw_base.specs.declared.error.ScpiError.{ScpiError}
 use Rattle.sw_base.specs.declared.terms.Source.{Source}
 use Rattle.sw_base.specs.declared.terms.Source.TheVariants.{Immediate, Bus, External, Hold, Timer}
 
--- the maker, the model, the serial number and the version (IEEE 488.2, 10.14)
+-- the revision of the instrument and of its cards
+abbrev pub revision : List ℕ
+revision = codes "1.0"
+
+-- the maker and three more fields, joined by commas: the model or kind, the serial number, the revision (IEEE 488.2,
+-- 10.14)
+abbrev pub four_fields : List ℕ → List ℕ → List ℕ → List ℕ
+four_fields kind serial version = codes "OPENBENCH," ++ (kind ++ 44 ∷ (serial ++ 44 ∷ version))
+
 abbrev pub identity_text : List ℕ
-identity_text = codes "OPENBENCH,SWM8,0,1.0"
+identity_text = four_fields (codes "SWM8") (codes "0") revision
 
 -- the version of SCPI (SCPI-1999, 21.21)
 abbrev pub version : List ℕ

@@ -7,6 +7,8 @@ pub mod Panel
 pub mod Registers
 pub mod Event
 pub mod Checking
+pub mod ScanChecking
+pub mod SlotTexts
 pub mod Action
 pub mod Step
 pub mod Good
@@ -15,4 +17,6 @@ pub mod Run
 pub mod Ends
 pub mod Reads
 pub mod ClosingTold
+pub mod ScanTold
+pub mod SlotsTold
 pub mod Opening

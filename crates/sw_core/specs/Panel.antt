@@ -1,10 +1,11 @@
 -- The whole state of the mainframe as plain data.
-use Rattle.std.specs.Prelude.{ℕ, Bool, false, is_some}
-use Rattle.sw_base.specs.Layout.{IsExclusive}
+use Rattle.std.specs.Prelude.{ℕ, Bool, false, List, is_some}
+use Rattle.sw_base.specs.Layout.{Channel, IsExclusive}
 use Rattle.sw_trigger.specs.Settings.{SettingsSeen, at_reset}
 use Rattle.sw_status.specs.StatusModel.{StatusSeen, first_status}
 use Rattle.sw_cage.specs.Cage.{CageSeen, empty_cage}
 use Rattle.sw_cage.specs.Accounts.{Accounts, layout_of, is_closed}
+use Rattle.sw_cage.specs.Close.{all_present}
 use Rattle.sw_core.specs.Sessions.{SessionsSeen, nobody}
 
 -- opc_waits: an *OPC waits for the end of the scan; events: how many there were
@@ -33,6 +34,10 @@ opening = opening_at 0 0
 -- the same but for what the slots hold
 abbrev pub with_cards : Panel → Accounts → Panel
 with_cards p rack = record p { cage = record p.cage { cards = rack } }
+
+-- the cage has each of the channels
+abbrev pub has_all : Panel → List Channel → Bool
+has_all p chans = all_present (layout_of p.cage.cards) chans
 
 -- a scan runs
 abbrev pub is_running : Panel → Bool

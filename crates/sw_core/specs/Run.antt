@@ -24,11 +24,12 @@ use Rattle.sw_status.specs.StatusModel.{queued}
 use Rattle.sw_core.specs.Event.{ended, erred}
 use Rattle.sw_core.specs.Good.{IsGoodPanel}
 use Rattle.sw_core.specs.Panel.{Panel, opening_at, is_running}
-use Rattle.sw_core.specs.Seen.{AskSeen, AskSession, AskEject, AskFinished, AnswerSeen, SaysSession, SaysEjected}
+use Rattle.sw_core.specs.Seen.{WorkSeen, AskSeen, AskSession, AskEject, AskFinished, AnswerSeen, SaysSession, SaysEjected}
 use Rattle.sw_core.specs.Seen.{SaysFailed, failed_in, IsOwnAccount, with_meter}
 use Rattle.sw_core.specs.Taken.{took, is_happening, readings_after, IsUnmoved}
 use Rattle.sw_core.specs.Seats.{FindsKey}
-use Rattle.sw_core.specs.Step.{Step}
+use Rattle.sw_core.specs.SlotTexts.{tells_surety}
+use Rattle.sw_core.specs.Step.{Step, Brings}
 
 -- one event: what was asked, what was answered, and the state after it
 pub record Event : Type 0 where
@@ -40,6 +41,12 @@ pub record Event : Type 0 where
 pub record IsNextEvent (p : Panel) (e : Event) : Type 0 where
   pub own : IsOwnAccount e.ask
   pub step : Step p e.ask (failed_in e.ask e.answer p.cage.cards e.panel.cage.cards) e.answer e.panel
+
+-- such an event is next, and leaves this work
+pub record StepBrings (p : Panel) (ask : AskSeen) (work : Option WorkSeen) (q : Panel) : Type 0 where
+  pub answer : AnswerSeen
+  pub next : IsNextEvent p (record { ask = ask; answer = answer; panel = q })
+  pub brings : Brings answer work
 
 -- each event is a step from the state before it
 abbrev pub IsRun : Panel → List Event → Type 0
@@ -180,9 +187,15 @@ abbrev pub failures_after : Bool → Accounts → FailuresAfter
 failures_after false cards = None
 failures_after true cards = Some (map failures_in cards)
 
+-- whether an answer is the word of a card that is sure of its relays, which is the card's own and no part of the state
+abbrev pub says_sure : AnswerSeen → Bool
+says_sure (SaysSession answer work) = tells_surety answer
+says_sure answer = false
+
 -- Where memory suffices, an ask has one answer and leaves one state for what comes of the cards: whether one failed in
--- the call, and if so, how often each has failed after it.
+-- the call, and if so, how often each has failed after it; and whether a card that is asked says that it is sure.
 abbrev pub StepIsDetermined : Type 0
 StepIsDetermined = (p q q' : Panel) (ask : AskSeen) (f f' : Bool) (a a' : AnswerSeen)
     → Step p ask f a q → Step p ask f' a' q' → failures_after f q.cage.cards ≡ failures_after f' q'.cage.cards
-    → IsPlain a → IsPlain a' → KeepsKey p ask a → KeepsKey p ask a' → (a ≡ a') × (q ≡ q')
+    → says_sure a ≡ says_sure a' → IsPlain a → IsPlain a' → KeepsKey p ask a → KeepsKey p ask a'
+    → (a ≡ a') × (q ≡ q')

@@ -22,7 +22,7 @@ use Rattle.sw_status.specs.StatusModel.{StatusSeen, pushed}
 use Rattle.sw_cage.specs.Accounts.{Accounts, layout_of, is_closed, all_open}
 use Rattle.sw_cage.specs.Change.{Sets, identity}
 use Rattle.sw_cage.specs.Channels.{closed_list}
-use Rattle.sw_cage.specs.Close.{CanClose, RefusesClose, all_present}
+use Rattle.sw_cage.specs.Close.{CanClose, RefusesClose}
 use Rattle.sw_cage.specs.declared.refusal.CloseRefusal.TheVariants.{Absent, Clash}
 use Rattle.sw_cage.specs.Install.{CanInstall, RefusesInstall, RefusesEject, stopped, without_card}
 use Rattle.sw_cage.specs.Cage.{CageSeen, cage_layout}
@@ -39,15 +39,15 @@ use Rattle.sw_core.specs.declared.ask.SessionAnswer.TheVariants as Answer
 use Rattle.sw_core.specs.declared.ask.SessionAnswer.TheVariants.{Joined, Full, Stranger, Broken, Done, Refused, Hold}
 use Rattle.sw_core.specs.declared.ask.SessionAnswer.TheVariants.{Worn}
 use Rattle.sw_core.specs.Action.{Effect, TellsText, TellsReadings, ReadsOut, SetsStatus, SetsUp}
-use Rattle.sw_core.specs.Action.{ClosesListed, OpensListed, TellsRelays, Changes}
+use Rattle.sw_core.specs.Action.{ClosesListed, OpensListed, TellsHardware, TellsSurety, Changes}
 use Rattle.sw_core.specs.Action.{Resets, Triggers, RefusesWith, IsOfMacros, Initiates, Action, AtOnce, BetweenScans}
 use Rattle.sw_core.specs.Action.{AfterScan, action_of, awaits_end, reset}
-use Rattle.sw_core.specs.Answers.{yes_or_no, as_asked}
+use Rattle.sw_core.specs.SlotTexts.{surety_word}
 use Rattle.sw_core.specs.declared.ask.Sid.{Sid}
 use Rattle.sw_hislip.specs.LockTable.{admits}
 use Rattle.sw_core.specs.Sessions.{SessionsSeen, IsJoined, IsLeastFree, is_clearing, fresh_seat, with_seat}
 use Rattle.sw_core.specs.Seats.{asker_of, is_dropped, is_shut_out, StepSeat, LacksSecond, Attaches}
-use Rattle.sw_core.specs.Panel.{Panel, with_cards, is_running}
+use Rattle.sw_core.specs.Panel.{Panel, with_cards, is_running, has_all}
 use Rattle.sw_core.specs.Registers.{card_fault_reported, card_fault_cleared}
 use Rattle.sw_core.specs.Event.{concluded, last_number, next_number}
 use Rattle.sw_core.specs.Seen.{WorkSeen, Measures, Pauses, AskSeen, AskSession, AskInstall, AskEject, AskExternal}
@@ -69,10 +69,6 @@ FailsSafe p q =
 abbrev pub MayClose : Panel → List Channel → Type 0
 MayClose p chans = CanClose (layout_of p.cage.cards) (is_closed p.cage.cards) chans
 
--- the cage has each of the channels
-abbrev pub has_all : Panel → List Channel → Bool
-has_all p chans = all_present (layout_of p.cage.cards) chans
-
 -- ROUTe:CLOSe of these channels (SCPI-1999, 18.1)
 abbrev pub StepClose : Panel → List Channel → Bool → SessionAnswer → Panel → Type 0
 StepClose p chans f (Done None) q =
@@ -93,14 +89,22 @@ StepOpen p chans f (Refused HardwareMissing) q = (f ≡ false) × (has_all p cha
 StepOpen p chans f (Refused HardwareError) q = (f ≡ true) × (has_all p chans ≡ true) × FailsSafe p q
 StepOpen p chans f answer q = ⊥
 
--- ROUTe:CLOSe? of these channels, for each whether it is closed, or ROUTe:OPEN?, whether it is open, joined by commas
-abbrev pub StepFlags : Panel → Bool → List Channel → Bool → SessionAnswer → Panel → Type 0
-StepFlags p closed chans f (Done (Some text)) q =
-    (f ≡ false) × (has_all p chans ≡ true)
-    × (text ≡ join_with_byte 44 (map (λ c. yes_or_no (as_asked closed (is_closed p.cage.cards c))) chans)) × (q ≡ p)
-StepFlags p closed chans f (Refused HardwareMissing) q = (f ≡ false) × (has_all p chans ≡ false) × (q ≡ p)
-StepFlags p closed chans f (Refused OutOfMemory) q = (f ≡ false) × (has_all p chans ≡ true) × (q ≡ p)
-StepFlags p closed chans f answer q = ⊥
+-- a query of hardware, which is answered by this text where it is there
+abbrev pub StepHardware : Panel → Bool → List ℕ → Bool → SessionAnswer → Panel → Type 0
+StepHardware p there text f (Done (Some t)) q = (f ≡ false) × (there ≡ true) × (t ≡ text) × (q ≡ p)
+StepHardware p there text f (Refused HardwareMissing) q = (f ≡ false) × (there ≡ false) × (q ≡ p)
+StepHardware p there text f (Refused OutOfMemory) q = (f ≡ false) × (there ≡ true) × (q ≡ p)
+StepHardware p there text f answer q = ⊥
+
+-- the text that is known, or else either word of a card
+abbrev pub IsSurety : Option (List ℕ) → List ℕ → Type 0
+IsSurety (Some text) t = t ≡ text
+IsSurety None t = (sure : Bool) × (t ≡ surety_word sure)
+
+-- a query that is answered by the text that is known, or by a card's own word
+abbrev pub StepSurety : Panel → Option (List ℕ) → Bool → SessionAnswer → Panel → Type 0
+StepSurety p known f (Done (Some t)) q = (f ≡ false) × IsSurety known t × (q ≡ p)
+StepSurety p known f answer q = ⊥
 
 -- a query that is answered by this text and leaves this status; without memory for the text it changes nothing
 abbrev pub StepText : Panel → List ℕ → StatusSeen → Bool → SessionAnswer → Panel → Type 0
@@ -179,7 +183,8 @@ StepAlone (SetsStatus after) p f answer q = StepDone (record p { status = after 
 StepAlone (SetsUp Fits error after) p f answer q = StepSetting p Fits error (after p.settings) f answer q
 StepAlone (ClosesListed chans) p f answer q = StepClose p chans f answer q
 StepAlone (OpensListed chans) p f answer q = StepOpen p chans f answer q
-StepAlone (TellsRelays closed chans) p f answer q = StepFlags p closed chans f answer q
+StepAlone (TellsHardware there text) p f answer q = StepHardware p (there p) (text p) f answer q
+StepAlone (TellsSurety known) p f answer q = StepSurety p (known p) f answer q
 StepAlone (Changes after) p f answer q = StepDone (after p) f answer q
 StepAlone Resets p f answer q = StepDone (reset p) f answer q
 StepAlone (RefusesWith error) p f answer q = StepRefused p error f answer q
@@ -436,10 +441,3 @@ Step p ask f answer q =
 abbrev pub Brings : AnswerSeen → Option WorkSeen → Type 0
 Brings (SaysTaken awaited) work = work ≡ awaited
 Brings answer work = work ≡ None
-
--- A step that leaves this work.
-pub record StepBrings (p : Panel) (ask : AskSeen) (work : Option WorkSeen) (q : Panel) : Type 0 where
-  pub failed : Bool
-  pub answer : AnswerSeen
-  pub step : Step p ask failed answer q
-  pub brings : Brings answer work

@@ -46,7 +46,7 @@ impl<R: Relay, M: Meter> Core<R, M> {
 }
 
 /// The first of the channels that the cage lacks.
-fn first_absent(layout: &Layout, chans: &[Chan]) -> Option<Chan>
+pub fn first_absent(layout: &Layout, chans: &[Chan]) -> Option<Chan>
     ensures { result ≡ first_absent layout.now chans.now }
 {
     for chan in chans {
@@ -66,7 +66,7 @@ fn are_joined(layout: &Layout, chan: Chan, other: Chan) -> bool
 }
 
 /// The first of these channels that is of one group with this one.
-fn joined_with(layout: &Layout, chan: Chan, others: &[Chan]) -> Option<Chan>
+pub fn joined_with(layout: &Layout, chan: Chan, others: &[Chan]) -> Option<Chan>
     ensures { result ≡ joined_with layout.now chan others.now }
 {
     for other in others {
@@ -96,7 +96,7 @@ fn first_joined(
 }
 
 /// Words in double quotes, with channels behind them where there are any.
-fn quoted(alloc: Global, words: &[u8], chans: &[Chan]) -> Result<Sequence<u8>, ScpiError>
+pub fn quoted(alloc: Global, words: &[u8], chans: &[Chan]) -> Result<Sequence<u8>, ScpiError>
     ensures { IfOk result (λ text. text ≡ quoted words.now chans.now) }
 {
     let mut text = Vec::new(alloc);

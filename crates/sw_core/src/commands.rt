@@ -38,6 +38,7 @@ impl<R: Relay, M: Meter> Core<R, M> {
             Command::Query(query) => self.tell(alloc, query, available),
             Command::LayerQuery(query, layer) => self.tell_layer(query, layer),
             Command::GroupQuery(query, group) => self.tell_group(query, group),
+            Command::SlotQuery(query, slot) => self.tell_slot(alloc, query, slot),
             Command::ReadOut(read) => self.read_out(alloc, read),
             Command::Continuous(true) => conflict(),
             Command::Continuous(false) => SessionAnswer::Done(None),

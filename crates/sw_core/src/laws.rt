@@ -6,6 +6,8 @@ ghost use Rattle.sw_core.specs.Ends.{EveryScanEnds};
 ghost use Rattle.sw_core.specs.Opening.{RunsGoOn};
 ghost use Rattle.sw_core.specs.Reads.{ReadTellsItsScan};
 ghost use Rattle.sw_core.specs.ClosingTold.{ClosingIsTold};
+ghost use Rattle.sw_core.specs.ScanTold.{ScanIsTold};
+ghost use Rattle.sw_core.specs.SlotsTold.{SlotsAreTold};
 
 /// A mainframe begins good and stays good, whatever went before: no absent channel is closed and no two closed channels
 /// clash, a scan that runs goes by the settings and has done a prefix of its agenda, which is sound, the queue holds 32
@@ -30,7 +32,7 @@ pub fn relays_obey()
 {}
 
 /// Where memory suffices, an ask has one answer and leaves one state for what comes of the cards: whether one failed in
-/// the call, and if so, how often each has failed after it.
+/// the call, and if so, how often each has failed after it; and whether a card that is asked says that it is sure.
 pub fn step_is_determined()
     ensures { StepIsDetermined }
 {}
@@ -62,4 +64,17 @@ pub fn read_tells_its_scan()
 /// refused by nothing: then it closes them, unless a card fails.
 pub fn closing_is_told()
     ensures { ClosingIsTold }
+{}
+
+/// Of every good mainframe `DIAGnostic:SCAN:CHECk?` begins with `"ok` exactly where INITiate is taken, unless memory
+/// runs out, and it names a refusal exactly where that is the first one that INITiate finds.
+pub fn scan_is_told()
+    ensures { ScanIsTold }
+{}
+
+/// Of every good mainframe the queries of a slot tell what scans are checked by: the kind and the count of channels that
+/// `SYSTem:CTYPe?` tells are those of the layout, whether a meter is out or in, and so are the groups that
+/// `SYSTem:CTYPe:GROups?` tells.
+pub fn slots_are_told()
+    ensures { SlotsAreTold }
 {}

@@ -22,8 +22,10 @@ mod queries;
 mod readings_text;
 mod registers;
 mod relays;
+mod scan_checking;
 mod scans;
 mod sessions;
+mod slots;
 mod state;
 mod text;
 
@@ -31,7 +33,7 @@ pub use answer_text::{AnswerForm, AnswerText};
 pub use ask::{Answer, Ask, SessionAnswer, SessionAsk, Sid, Work};
 pub use laws::{
     closing_is_told, every_run_is_good, every_scan_ends, mainframe_stays_good, read_tells_its_scan,
-    relays_obey, runs_go_on, step_is_determined,
+    relays_obey, runs_go_on, scan_is_told, slots_are_told, step_is_determined,
 };
 pub use readings_text::ReadingsText;
 pub use state::Core;

@@ -43,6 +43,7 @@ impl<R: Relay, M: Meter> Core<R, M> {
             PlainQuery::Points => self.number(u64::from(self.settings.points())),
             PlainQuery::ActualPoints => self.number(self.cage.readings().len() as u64),
             PlainQuery::Bound => self.number(self.settings.bound()),
+            PlainQuery::ScanCheck => self.check_scan(alloc),
         }
     }
 

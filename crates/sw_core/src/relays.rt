@@ -5,9 +5,9 @@ ghost use Rattle.sw_cage.specs.Change.{any_failed};
 ghost use Rattle.sw_cage.specs.Accounts.{all_open};
 ghost use Rattle.sw_cage.specs.Channels.{closed_list};
 ghost use Rattle.sw_channel.specs.Printing.{printed};
-ghost use Rattle.sw_core.specs.Action.{aborted, reset};
-ghost use Rattle.sw_core.specs.Panel.{with_cards};
-ghost use Rattle.sw_core.specs.Step.{StepText, StepDone, StepClose, StepOpen, StepFlags};
+ghost use Rattle.sw_core.specs.Action.{aborted, reset, flags_text};
+ghost use Rattle.sw_core.specs.Panel.{with_cards, has_all};
+ghost use Rattle.sw_core.specs.Step.{StepText, StepDone, StepClose, StepOpen, StepHardware};
 
 use crate::answer_text::AnswerText;
 use crate::ask::SessionAnswer;
@@ -102,7 +102,8 @@ impl<R: Relay, M: Meter> Core<R, M> {
     /// For each channel whether it is closed, or, where `closed` is false, whether it is open.
     #[inline(never)]
     pub(crate) fn flags(&self, alloc: Global, closed: bool, chans: &[Chan]) -> SessionAnswer
-        ensures { StepFlags self.now closed chans.now Bool.false result self.now }
+        ensures { StepHardware self.now (has_all self.now chans.now) (flags_text closed chans.now self.now) Bool.false
+            result self.now }
     {
         if !self.cage.all_present(chans) {
             return SessionAnswer::Refused(ScpiError::HardwareMissing);

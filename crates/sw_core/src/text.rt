@@ -15,7 +15,7 @@ use sw_cage::Cage;
 use sw_card::{Meter, Relay};
 
 /// For how many bytes there is room in a text that grows.
-const ROOM: usize = 64;
+pub const ROOM: usize = 64;
 
 /// The maker, the model, the serial number and the version (IEEE 488.2, 10.14).
 pub fn identity() -> AnswerText

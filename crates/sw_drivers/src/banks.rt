@@ -57,6 +57,8 @@ impl<D: Driver> Relay for Banks<D> {
 
     ghost closed = { λ b. b.1.closed };
 
+    ghost sure = { λ b. D.sure b.0 };
+
     fn channels(&self) -> u8 {
         self.row.channels()
     }
@@ -70,6 +72,10 @@ impl<D: Driver> Relay for Banks<D> {
 
     fn is_closed(&self, ch: u8) -> bool {
         self.row.is_closed(ch)
+    }
+
+    fn is_sure(&self) -> bool {
+        self.row.is_sure()
     }
 
     fn close(&mut self, ch: u8) -> Result<(), CardFault> {

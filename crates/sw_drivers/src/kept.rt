@@ -73,6 +73,8 @@ fn switch<B: Board>(
 impl<B: Board, T: Told + Drop> Driver for Kept<B, T> {
     ghost driven = { λ d k. slice_index_or d.1 k false };
 
+    ghost sure = { λ d. d.2 };
+
     // `Ok` only where the board has shown its coils to stand as the account says, and none is switched on while the
     // last cut is not confirmed.
     ghost drives = { λ d ch on result e. OnOk result (B.shows e.0 e.1 × (IsTrue on → IsTrue d.2)) };
@@ -93,6 +95,11 @@ impl<B: Board, T: Told + Drop> Driver for Kept<B, T> {
                 Err(CardFault)
             }
         }
+    }
+
+    /// Whether the board has confirmed the last cut.
+    fn is_sure(&self) -> bool {
+        self.is_sure
     }
 
     fn cut(&mut self) {

@@ -43,7 +43,10 @@ pub struct LineBoard<W: Wire> {
 
 impl<W: Wire> LineBoard<W> {
     /// The board at the other end.
-    pub fn new(wire: W, commands: Commands) -> Self {
+    pub fn new(wire: W, commands: Commands) -> Self
+        ensures wire { result.wire ≡ wire }
+        ensures commands { result.commands ≡ commands }
+    {
         LineBoard { wire, commands }
     }
 

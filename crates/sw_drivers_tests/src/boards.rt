@@ -112,8 +112,8 @@ fn what_is_read_back_decides(rt: HostRuntime) -> Result<(), Fail> {
     Ok(())
 }
 
-/// A board that doesn't answer a cut: whether its slot is unsure then, nothing is switched on in another slot, and is
-/// again after the cut that it answers.
+/// A board that doesn't answer a cut: whether its slot is unsure then, and alone says so, nothing is switched on in
+/// another slot, and is again after the cut that it answers.
 fn holds_others<W: Wait + Copy + Drop>(rt: W, alloc: Global) -> Option<bool> {
     let record = Record::new(rt, alloc).ok()?;
     let interlock = Interlock::new(alloc).ok()?;
@@ -125,11 +125,12 @@ fn holds_others<W: Wait + Copy + Drop>(rt: W, alloc: Global) -> Option<bool> {
     let before = other.drive(1, true).is_ok();
     board.cut();
     let unsure = interlock.is_unsure(2) && !interlock.is_unsure(1) && interlock.is_held();
+    let tells = !board.is_sure() && other.is_sure();
     let refused = other.drive(2, true).is_err() && board.drive(2, true).is_err();
     let opened = other.drive(1, false).is_ok();
     board.cut();
-    let sure = !interlock.is_held() && other.drive(2, true).is_ok();
-    Some(before && unsure && refused && opened && sure)
+    let sure = !interlock.is_held() && board.is_sure() && other.drive(2, true).is_ok();
+    Some(before && unsure && tells && refused && opened && sure)
 }
 
 #[test]

@@ -1,4 +1,4 @@
--- The stream of a connection, and what a decoder tells of it over all its calls.
+-- The stream of a connection, and what a decoder gives of it over all its calls.
 use Rattle.std.specs.Prelude.{◌≡◌, ◌<◌, ◌+◌, ◌*◌, ℕ, nat_lt, ◌⊎◌, List, [], ◌∷◌, ◌++◌, length, map, Option, None, Some}
 use Rattle.std.specs.Prelude.{Result, Ok, Err, if◌then◌else◌}
 use Rattle.std.specs.List.{AllByRecursion, flat_map}
@@ -11,7 +11,7 @@ use Rattle.sw_hislip.specs.Wire.{wire, IsWireMessage, HasHeader}
 use Rattle.sw_hislip.specs.Pending.{longest_payload, Pending, DecoderSeen, IsLean, nothing_fed, fed}
 use Rattle.sw_hislip.specs.Pending.{HasWrongPrologue, Waits, GivesNext, HasMessage}
 
--- no whole message, however large, stands at the front
+-- no whole message, however large, is at the front
 abbrev pub IsRest : List ℕ → Type 0
 IsRest rest = (m : Message) (more : List ℕ) → IsWireMessage m → rest ≡ wire m ++ more → ⊥
 
@@ -21,13 +21,13 @@ pub record IsStream (bytes : List ℕ) (messages : List Message) (rest : List �
   pub each : AllByRecursion IsWireMessage messages
   pub partial : IsRest rest
 
--- what is told of a message: itself, or its kind where its payload is too large
+-- what a decoder gives for a message: the message, or its kind where its payload is too large
 abbrev pub told_of : Message → Result Message Kind
 told_of m = if nat_lt longest_payload (length m.payload) then Err m.kind else Ok m
 
 -- ---- a decoder's calls
 
--- a piece that was fed, or what was answered next; a piece that was refused changed nothing
+-- a piece that was fed, or the answer to a call for the next message; a refused piece changes nothing, and is no call
 pub data Call : Type 0 where
   feeds : List ℕ → Call
   answers : Result (Option Message) WireFault → Call
@@ -54,9 +54,9 @@ told (answers (Err BadPrologue) ∷ calls) = told calls
 told (answers (Err NoMemory) ∷ calls) = told calls
 told (feeds piece ∷ calls) = told calls
 
--- ---- where a decoder stands in the stream
+-- ---- a decoder's place in the stream
 
--- The front of a message whose payload is too large and is skipped: so many of its bytes are still to come.
+-- The front of a message whose payload is too large and is skipped; `skip` of its bytes are still to come.
 pub record IsSkipped (rest : List ℕ) (kind : Kind) (skip : ℕ) : Type 0 where
   pub h : Header
   pub got : List ℕ
@@ -66,14 +66,14 @@ pub record IsSkipped (rest : List ℕ) (kind : Kind) (skip : ℕ) : Type 0 where
   pub missing : length got + skip ≡ h.length
   pub some : 0 < skip
 
--- Of these messages was told, and the rest is pending; or the rest is the front of one that is skipped, of which was
--- told too.
+-- A decoder gave these messages, and the rest is pending; or the rest is the front of a message that it skips, whose
+-- kind it gave too.
 abbrev pub Leaves : List Message → List ℕ → List (Result Message Kind) → Pending → Type 0
 Leaves messages rest told p =
     ((told ≡ map told_of messages) × (p ≡ record { bytes = rest; skip = 0 }))
     ⊎ ((kind : Kind) × IsSkipped rest kind p.skip × (told ≡ map told_of messages ++ Err kind ∷ []) × (p.bytes ≡ []))
 
--- What was told is told of messages of the stream, from its start on and in order, and of no others.
+-- What a decoder gave is the messages of the stream, from its start on and in order, and no others.
 pub record Follows (bytes : List ℕ) (told : List (Result Message Kind)) (p : Pending) : Type 0 where
   pub messages : List Message
   pub rest : List ℕ
@@ -81,17 +81,17 @@ pub record Follows (bytes : List ℕ) (told : List (Result Message Kind)) (p : P
   pub whole : bytes ≡ flat_map wire messages ++ rest
   pub leaves : Leaves messages rest told p
 
--- A decoder rests: it waits for more, or a wrong prologue stands in a message's place.
+-- A decoder rests: it waits for more bytes, or it is at a wrong prologue.
 abbrev pub Rests : List ℕ → Type 0
 Rests bytes = Waits bytes ⊎ HasWrongPrologue bytes
 
 -- ---- the laws
 
--- Whatever the calls of a new decoder are, what was told is told of the messages of the stream, in order.
+-- Any calls of a new decoder give the messages of the stream, in order.
 abbrev pub EveryMessageComesOut : List Call → Pending → Type 0
 EveryMessageComesOut calls p = Decodes nothing_fed calls p → Follows (stream_of calls) (told calls) p
 
--- Where a decoder rests, it has told of every message: what is left is no whole one.
+-- A decoder that rests has given every message: what is left is no whole one.
 abbrev pub LeavesARest : List ℕ → List (Result Message Kind) → Pending → Type 0
 LeavesARest bytes told p = (f : Follows bytes told p) → Rests p.bytes → IsStream bytes f.messages f.rest
 
@@ -101,7 +101,7 @@ OneStream bytes =
     (ms ns : List Message) (rest other : List ℕ) → IsStream bytes ms rest → IsStream bytes ns other
     → (ms ≡ ns) × (rest ≡ other)
 
--- Two decoders that were fed the same stream and that both rest told the same, and the same is pending in both.
+-- Two decoders that were fed the same stream and rest gave the same, and the same is pending in both.
 abbrev pub TellAlike : List ℕ → List (Result Message Kind) → List (Result Message Kind) → Pending → Pending → Type 0
 TellAlike bytes t u p q =
     Follows bytes t p → Follows bytes u q → Rests p.bytes → Rests q.bytes → (t ≡ u) × (p ≡ q)
@@ -116,7 +116,7 @@ CutsDoNotMatter calls others =
 abbrev pub RoomIsBounded : DecoderSeen → Type 0
 RoomIsBounded d = IsLean d → Waits d.pending.bytes → d.room < 2 * (16 + longest_payload)
 
--- A message on the wire is given back, whatever follows it, unless there is no memory for it.
+-- A message on the wire is given, with any bytes behind it, unless there is no memory for it.
 abbrev pub ComesBack : Message → Type 0
 ComesBack m =
     (old new : Pending) (more : List ℕ) (answer : Result (Option Message) WireFault) → HasMessage old.bytes m more
@@ -129,6 +129,6 @@ AllWrong [] = Unit {0}
 AllWrong (feeds piece ∷ calls) = AllWrong calls
 AllWrong (answers answer ∷ calls) = (answer ≡ Err BadPrologue) × AllWrong calls
 
--- Once a wrong prologue stands in a message's place, nothing else is answered.
+-- Once a decoder is at a wrong prologue, it answers nothing else.
 abbrev pub WrongPrologueStays : List Call → Type 0
 WrongPrologueStays calls = (p q : Pending) → HasWrongPrologue p.bytes → Decodes p calls q → AllWrong calls

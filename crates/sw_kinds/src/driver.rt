@@ -13,6 +13,9 @@ pub trait Driver: Drop {
     // Whether the channel's coil may be driven.
     ghost driven: { Self → ℕ → Bool };
 
+    // Whether the driver can say that no other coil is driven; one that can't tell is sure.
+    ghost sure: { Self → Bool } = { λ _. true };
+
     // What a call of `drive` may do: the driver before it, channel, state asked for, result, the driver after it.
     ghost drives: { Self → ℕ → Bool → Result (Unit {0}) CardFault → Self → Type 0 } = { λ _ _ _ _ _. ⊤ };
 
@@ -24,6 +27,10 @@ pub trait Driver: Drop {
         ensures ok { OnOk result (driven self.new ch ≡ on) }
         ensures others { (k : ℕ) → k ≢ ch → driven self.new k ≡ driven self.old k }
         ensures drives { drives self.old ch on result self.new };
+
+    /// Whether the driver can say that no coil is driven but those of its account.
+    fn is_sure(&self) -> bool
+        ensures { result ≡ sure self.now };
 
     /// Cuts the supply of every coil. It cannot fail.
     fn cut(&mut self)

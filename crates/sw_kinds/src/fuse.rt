@@ -39,6 +39,8 @@ impl<D: Driver> Fuse<D> {
 impl<D: Driver> Driver for Fuse<D> {
     ghost driven = { λ f. D.driven f.0 };
 
+    ghost sure = { λ f. D.sure f.0 };
+
     ghost drives = { λ f ch on result g. DrivesByFuse D.drives D.driven f ch on result g };
 
     ghost cuts = { λ f g. D.cuts f.0 g.0 × (g.1 ≡ f.1) };
@@ -50,6 +52,10 @@ impl<D: Driver> Driver for Fuse<D> {
             return Err(CardFault);
         }
         outcome
+    }
+
+    fn is_sure(&self) -> bool {
+        self.driver.is_sure()
     }
 
     fn cut(&mut self) {

@@ -39,6 +39,8 @@ impl<D: Driver> OpenFuse<D> {
 impl<D: Driver> Driver for OpenFuse<D> {
     ghost driven = { λ f. D.driven f.0 };
 
+    ghost sure = { λ f. D.sure f.0 };
+
     ghost drives = { λ f ch on result g. DrivesByOpenFuse D.drives f ch on result g };
 
     ghost cuts = { λ f g. D.cuts f.0 g.0 × (g.1 ≡ f.1) };
@@ -48,6 +50,10 @@ impl<D: Driver> Driver for OpenFuse<D> {
             return Err(CardFault);
         }
         self.driver.drive(ch, on)
+    }
+
+    fn is_sure(&self) -> bool {
+        self.driver.is_sure()
     }
 
     fn cut(&mut self) {

@@ -147,6 +147,8 @@ impl<D: Driver, K> Relay for Row<D, K> {
 
     ghost closed = { λ c. c.1.closed };
 
+    ghost sure = { λ c. D.sure c.0 };
+
     fn channels(&self) -> u8 {
         self.channels
     }
@@ -161,6 +163,11 @@ impl<D: Driver, K> Relay for Row<D, K> {
 
     fn is_closed(&self, ch: u8) -> bool {
         ch <= self.channels && self.closed.has(ch)
+    }
+
+    /// As its driver says.
+    fn is_sure(&self) -> bool {
+        self.coils.driver().is_sure()
     }
 
     /// Fails exactly where the driver does; the channel then counts as closed.

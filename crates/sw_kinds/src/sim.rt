@@ -42,6 +42,10 @@ impl Driver for SimDriver {
         Ok(())
     }
 
+    fn is_sure(&self) -> bool {
+        true
+    }
+
     fn cut(&mut self) {
         self.coils = no_flags();
     }

@@ -20,7 +20,7 @@ abbrev pub layer_numbered : Family → ℕ → LayerName
 layer_numbered families.Arm number = layers.Arm (arm_numbered number)
 layer_numbered families.Trigger number = layers.Trigger
 
--- the command that sets this number
+-- the command with this number
 abbrev pub of_whole : Whole → ℕ → ℕ → Command
 of_whole whole_ones.EventEnable number n = commands.SetStatus (status.EventEnable n)
 of_whole whole_ones.ServiceEnable number n = commands.SetStatus (status.ServiceEnable n)
@@ -30,6 +30,7 @@ of_whole (whole_ones.Enable group) number n = commands.SetStatus (status.Enable 
 of_whole (whole_ones.PositiveTransition group) number n = commands.SetStatus (status.PositiveTransition group n)
 of_whole (whole_ones.NegativeTransition group) number n = commands.SetStatus (status.NegativeTransition group n)
 of_whole whole_ones.Points number n = commands.Set (settings.Points n)
+of_whole (whole_ones.Slot query) number n = commands.SlotQuery query n
 
 -- the least number that a command takes
 abbrev pub least : Whole → ℕ
@@ -41,6 +42,7 @@ least (whole_ones.Enable group) = 0
 least (whole_ones.PositiveTransition group) = 0
 least (whole_ones.NegativeTransition group) = 0
 least whole_ones.Points = 1
+least (whole_ones.Slot query) = 1
 
 -- the greatest
 abbrev pub greatest : Whole → ℕ
@@ -53,6 +55,7 @@ greatest (whole_ones.Enable group) = 65535
 greatest (whole_ones.PositiveTransition group) = 65535
 greatest (whole_ones.NegativeTransition group) = 65535
 greatest whole_ones.Points = most_points
+greatest (whole_ones.Slot query) = most_slots
 
 -- the least time that a layer takes, in microseconds
 abbrev pub least_micros : Time → ℕ

@@ -7,6 +7,7 @@ use Rattle.sw_lex.specs.declared.command.Plain.TheVariants as plain
 use Rattle.sw_lex.specs.declared.command.PlainQuery.TheVariants as queries
 use Rattle.sw_lex.specs.declared.command.LayerQuery.TheVariants as layer_queries
 use Rattle.sw_lex.specs.declared.command.GroupQuery.TheVariants as group_queries
+use Rattle.sw_lex.specs.declared.command.SlotQuery.TheVariants as slot_queries
 use Rattle.sw_lex.specs.declared.command.StatusRead.TheVariants as reads
 use Rattle.sw_lex.specs.declared.command.Channels.TheVariants as lists
 use Rattle.sw_lex.specs.declared.command.Time.TheVariants as times
@@ -99,7 +100,11 @@ table =
     ∷ (codes "SYSTem:ERRor:COUNt?", keys.Query queries.ErrorCount)
     ∷ (codes "SYSTem:HELP:HEADers?", keys.Query queries.Headers)
     ∷ (codes "SYSTem:VERSion?", keys.Query queries.Version)
+    ∷ (codes "SYSTem:CTYPe?", keys.Whole (wholes.Slot slot_queries.Kind))
+    ∷ (codes "SYSTem:CTYPe:GROups?", keys.Whole (wholes.Slot slot_queries.Groups))
+    ∷ (codes "SYSTem:CTYPe:STATe?", keys.Whole (wholes.Slot slot_queries.State))
     ∷ (codes "DIAGnostic:SCAN:BOUNd?", keys.Query queries.Bound)
+    ∷ (codes "DIAGnostic:SCAN:CHECk?", keys.Query queries.ScanCheck)
     ∷ (codes "DIAGnostic:CLOSe:CHECk?", keys.Channels lists.CloseCheck)
     ∷ (codes "FETCh?", keys.Plain plain.Fetch)
     ∷ (codes "READ?", keys.Plain plain.Read)

@@ -17,7 +17,7 @@ pub fn layer_of(family: Family, number: u8) -> LayerName
     }
 }
 
-/// The command that sets this number.
+/// The command with this number.
 pub fn of_whole(ask: Whole, number: u8, n: u32) -> Command
     requires { n ≤ greatest ask }
     ensures { result ≡ of_whole ask number n }
@@ -35,6 +35,7 @@ pub fn of_whole(ask: Whole, number: u8, n: u32) -> Command
             Command::SetStatus(StatusSetting::NegativeTransition(group, n as u16))
         }
         Whole::Points => Command::Set(Setting::Points(n)),
+        Whole::Slot(query) => Command::SlotQuery(query, n as u8),
     }
 }
 
@@ -44,7 +45,7 @@ pub fn least(ask: Whole) -> u32
 {
     match ask {
         Whole::EventEnable | Whole::ServiceEnable => 0,
-        Whole::Count(_) | Whole::ScanMeter | Whole::Points => 1,
+        Whole::Count(_) | Whole::ScanMeter | Whole::Points | Whole::Slot(_) => 1,
         Whole::Enable(_) | Whole::PositiveTransition(_) | Whole::NegativeTransition(_) => 0,
     }
 }
@@ -57,7 +58,7 @@ pub fn greatest(ask: Whole) -> u32
         Whole::EventEnable | Whole::ServiceEnable => 255,
         Whole::Count(Family::Arm) => ARM_COUNT,
         Whole::Count(Family::Trigger) => TRIGGER_COUNT,
-        Whole::ScanMeter => u32::from(SLOTS),
+        Whole::ScanMeter | Whole::Slot(_) => u32::from(SLOTS),
         Whole::Enable(_) | Whole::PositiveTransition(_) | Whole::NegativeTransition(_) => 65_535,
         Whole::Points => POINTS,
     }

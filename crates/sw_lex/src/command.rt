@@ -21,6 +21,8 @@ pub enum Command {
     LayerQuery(LayerQuery, LayerName),
     /// A query of a status group that changes nothing.
     GroupQuery(GroupQuery, StatusGroup),
+    /// A query of a slot, 1 to `SLOTS`.
+    SlotQuery(SlotQuery, u8),
     /// A query that takes what it tells out of the status.
     ReadOut(StatusRead),
     /// `ARM[:LAYer]:SIGNal`, `TRIGger:SIGNal`
@@ -106,6 +108,8 @@ pub enum PlainQuery {
     ActualPoints,
     /// `DIAGnostic:SCAN:BOUNd?`
     Bound,
+    /// `DIAGnostic:SCAN:CHECk?`
+    ScanCheck,
 }
 
 /// The queries of a trigger layer.
@@ -132,6 +136,17 @@ pub enum GroupQuery {
     PositiveTransition,
     /// `STATus:OPERation:NTRansition?`, `STATus:QUEStionable:NTRansition?`
     NegativeTransition,
+}
+
+/// The queries of a slot.
+#[derive(Clone, Copy, Debug, PartialEq, Eq)]
+pub enum SlotQuery {
+    /// `SYSTem:CTYPe?`
+    Kind,
+    /// `SYSTem:CTYPe:GROups?`
+    Groups,
+    /// `SYSTem:CTYPe:STATe?`
+    State,
 }
 
 /// The queries that take what they tell out of the status.

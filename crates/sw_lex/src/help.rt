@@ -5,7 +5,7 @@ ghost use Rattle.sw_lex.specs.Help.{headers_text};
 
 /// The lines of the table, in its order. `specs/Help.antt` makes them of `specs/Table.antt`, so that a row that is added
 /// there has to be added here, and the length with it.
-static HEADERS: &[u8] = b"#41195\
+static HEADERS: &[u8] = b"#41305\
     *IDN?/qonly/\n\
     *RST/nquery/\n\
     *OPC\n\
@@ -61,7 +61,11 @@ static HEADERS: &[u8] = b"#41195\
     :SYSTem:ERRor:COUNt?/qonly/\n\
     :SYSTem:HELP:HEADers?/qonly/\n\
     :SYSTem:VERSion?/qonly/\n\
+    :SYSTem:CTYPe?/qonly/\n\
+    :SYSTem:CTYPe:GROups?/qonly/\n\
+    :SYSTem:CTYPe:STATe?/qonly/\n\
     :DIAGnostic:SCAN:BOUNd?/qonly/\n\
+    :DIAGnostic:SCAN:CHECk?/qonly/\n\
     :DIAGnostic:CLOSe:CHECk?/qonly/\n\
     :FETCh?/qonly/\n\
     :READ?/qonly/";

@@ -31,7 +31,7 @@ mod values;
 
 pub use command::{
     AllMacros, BoxedDefinition, Channels, Command, Definition, GroupQuery, LayerQuery,
-    MacroCommand, Plain, PlainQuery, Setting, StatusRead, StatusSetting, Time,
+    MacroCommand, Plain, PlainQuery, Setting, SlotQuery, StatusRead, StatusSetting, Time,
 };
 pub use elements::ElementKind;
 pub use headers::one_command;

@@ -32,6 +32,12 @@ pub const BOUND: Form = Form {
     long: 0x1_42_4F_55_4E_44,
 };
 
+pub const CARD_TYPE: Form = Form {
+    text: b"CTYPe",
+    short: 0x1_43_54_59_50,
+    long: 0x1_43_54_59_50_45,
+};
+
 pub const CHANNEL: Form = Form {
     text: b"CHANnel",
     short: 0x1_43_48_41_4E,
@@ -102,6 +108,12 @@ pub const FETCH: Form = Form {
     text: b"FETCh",
     short: 0x1_46_45_54_43,
     long: 0x1_46_45_54_43_48,
+};
+
+pub const GROUPS: Form = Form {
+    text: b"GROups",
+    short: 0x1_47_52_4F,
+    long: 0x1_47_52_4F_55_50_53,
 };
 
 pub const HEADERS: Form = Form {

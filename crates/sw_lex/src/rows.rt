@@ -6,12 +6,14 @@ ghost use Rattle.std.specs.Char.{to_ascii_uppercase};
 ghost use Rattle.sw_lex.specs.Rows.{row_nodes, key_of_row};
 ghost use Rattle.sw_lex.specs.Parts.{IsPart};
 
-use crate::command::{Channels, GroupQuery, LayerQuery, Plain, PlainQuery, StatusRead, Time};
+use crate::command::{
+    Channels, GroupQuery, LayerQuery, Plain, PlainQuery, SlotQuery, StatusRead, Time,
+};
 use crate::mnemonics::{
-    ABORT, ACTUAL, ALL, ARM, BOUND, CHANNEL, CHECK, CLOSE, CONDITION, CONTINUOUS, COUNT, DELAY,
-    DIAGNOSTIC, ENABLE, ERROR, EVENT, FETCH, HEADERS, HELP, IMMEDIATE, INITIATE, LAYER, METER,
-    NEXT, NTRANSITION, OPEN, OPERATION, POINTS, PRESET, PTRANSITION, QUESTIONABLE, READ, ROUTE,
-    SCAN, SIGNAL, SOURCE, STATE, STATUS, SYSTEM, TIMER, TRACE, TRIGGER, VERSION,
+    ABORT, ACTUAL, ALL, ARM, BOUND, CARD_TYPE, CHANNEL, CHECK, CLOSE, CONDITION, CONTINUOUS, COUNT,
+    DELAY, DIAGNOSTIC, ENABLE, ERROR, EVENT, FETCH, GROUPS, HEADERS, HELP, IMMEDIATE, INITIATE,
+    LAYER, METER, NEXT, NTRANSITION, OPEN, OPERATION, POINTS, PRESET, PTRANSITION, QUESTIONABLE,
+    READ, ROUTE, SCAN, SIGNAL, SOURCE, STATE, STATUS, SYSTEM, TIMER, TRACE, TRIGGER, VERSION,
 };
 use crate::packing::Form;
 use crate::rows::HeaderNode::{May, Must, Numbered};
@@ -323,6 +325,15 @@ static PATHS_S: Part = Part {
                     Key::Query(PlainQuery::Headers),
                 ),
                 Query(&[Must(VERSION)], Key::Query(PlainQuery::Version)),
+                Query(&[Must(CARD_TYPE)], Key::Whole(Whole::Slot(SlotQuery::Kind))),
+                Query(
+                    &[Must(CARD_TYPE), Must(GROUPS)],
+                    Key::Whole(Whole::Slot(SlotQuery::Groups)),
+                ),
+                Query(
+                    &[Must(CARD_TYPE), Must(STATE)],
+                    Key::Whole(Whole::Slot(SlotQuery::State)),
+                ),
             ],
         },
     ],
@@ -334,6 +345,10 @@ static PATHS_D: Part = Part {
         first: DIAGNOSTIC,
         rows: &[
             Query(&[Must(SCAN), Must(BOUND)], Key::Query(PlainQuery::Bound)),
+            Query(
+                &[Must(SCAN), Must(CHECK)],
+                Key::Query(PlainQuery::ScanCheck),
+            ),
             Query(
                 &[Must(CLOSE), Must(CHECK)],
                 Key::Channels(Channels::CloseCheck),

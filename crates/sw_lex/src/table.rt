@@ -1,7 +1,7 @@
 //! The commands' headers, as a table (SCPI-1999, volume 1, 6.2; IEEE 488.2, 10).
 
 use crate::command::{
-    AllMacros, Channels, GroupQuery, LayerQuery, Plain, PlainQuery, StatusRead, Time,
+    AllMacros, Channels, GroupQuery, LayerQuery, Plain, PlainQuery, SlotQuery, StatusRead, Time,
 };
 use sw_base::StatusGroup;
 
@@ -44,7 +44,7 @@ pub enum Key {
     RemoveMacro,
 }
 
-/// The commands with a whole number.
+/// The commands and queries with a whole number.
 #[derive(Clone, Copy, Debug, PartialEq, Eq)]
 pub enum Whole {
     EventEnable,
@@ -55,6 +55,7 @@ pub enum Whole {
     PositiveTransition(StatusGroup),
     NegativeTransition(StatusGroup),
     Points,
+    Slot(SlotQuery),
 }
 
 /// The nodes below which trigger layers stand: ARM has several, by the number in the header, and TRIGger is one.

@@ -30,6 +30,10 @@ impl Driver for Recorder {
         self.coils.drive(ch, on)
     }
 
+    fn is_sure(&self) -> bool {
+        true
+    }
+
     fn cut(&mut self) {
         self.record.store(0, Ordering::SeqCst);
         self.coils.cut();

@@ -5,7 +5,7 @@ use std::test::Fail;
 use sw_base::{Chan, LayerName, ScpiError, Source, StatusGroup};
 use sw_lex::{
     Channels, Command, Element, Elements, LayerQuery, MacroCommand, Path, Plain, PlainQuery,
-    RawUnit, Setting, StatusSetting, Time, next_unit, resolve,
+    RawUnit, Setting, SlotQuery, StatusSetting, Time, next_unit, resolve,
 };
 
 /// What the first unit of a text gives below this path.
@@ -177,11 +177,21 @@ fn numbers(command: &Command) -> (u64, u8) {
         Command::Set(setting) => setting_numbers(setting),
         Command::SetStatus(setting) => status_numbers(*setting),
         Command::Continuous(on) | Command::Macro(MacroCommand::Enable(on)) => (u64::from(*on), 0),
+        Command::SlotQuery(query, slot) => (u64::from(*slot), slot_query(*query)),
         Command::LayerQuery(LayerQuery::Count, layer) | Command::Signal(layer) => (
             0,
             layer_number(*layer),
         ),
         _ => (99, 99),
+    }
+}
+
+/// Which query of a slot it is.
+fn slot_query(query: SlotQuery) -> u8 {
+    match query {
+        SlotQuery::Kind => 1,
+        SlotQuery::Groups => 2,
+        SlotQuery::State => 3,
     }
 }
 
@@ -269,6 +279,9 @@ fn reads_numbers(rt: HostRuntime) {
         (b"ARM:LAYER3:SOURCE timer".as_slice(), (78, 3)),
         (b"TRAC:POIN 1e5".as_slice(), (100_000, 0)),
         (b"ROUT:SCAN:MET 16".as_slice(), (16, 0)),
+        (b"SYST:CTYP? 16".as_slice(), (16, 1)),
+        (b"system:ctype:groups? 1.4".as_slice(), (1, 2)),
+        (b"SYSTem:CTYPe:STATe? 2".as_slice(), (2, 3)),
         (b"STAT:OPER:ENAB 65535".as_slice(), (65_535, 1)),
         (b"STATUS:QUESTIONABLE:NTRANSITION 2".as_slice(), (2, 2)),
         (b"INIT:CONT OFF".as_slice(), (0, 0)),

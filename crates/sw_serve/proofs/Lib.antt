@@ -1,3 +1,3 @@
 mod SlotCardsLemmas
 mod ClosingLemmas
-mod FittingLemmas
+pub mod FittingLemmas

@@ -20,7 +20,7 @@ use sw_workers::Tcp;
 /// How long a door rests after a connection that failed, in milliseconds.
 const REST_MS: u64 = 10;
 
-/// For how many milliseconds after it has told of a connection that failed it tells of no other.
+/// For how many milliseconds after a remark on a failed connection it makes no other.
 const QUIET_MS: u128 = 1_000;
 
 /// What a door waits for.
@@ -32,9 +32,9 @@ enum Coming {
     End { is_at_once: bool },
 }
 
-/// A listener, and how many connections came to it, those among them that failed. Where it has an input, no connection
-/// is taken after that has ended or failed; of what comes from it before, lines `abort` are orders, and all else is let
-/// go. What comes and goes is told to a log.
+/// A listener, and the number of connections that came to it, failed ones too. Where it has an input, it takes no
+/// connection after that has ended or failed; a line `abort` on it is an order, any other is ignored. A log has what
+/// comes and goes.
 #[derive(Drop)]
 pub struct Door<'a, W: Wait + Clock + Copy + Drop, I: Read + AsRawFd + Drop, L: Log + Copy + Drop> {
     rt: W,
@@ -43,11 +43,11 @@ pub struct Door<'a, W: Wait + Clock + Copy + Drop, I: Read + AsRawFd + Drop, L: 
     input: Option<I>,
     orders: Orders,
     log: L,
-    /// An abort was asked for, and not told yet: it is done where the next connection is asked for.
+    /// An abort was asked for, and is not in the log yet: it is done by the time the next connection is asked for.
     is_aborting: bool,
-    /// Nothing was waited for yet.
+    /// It has not waited yet.
     is_new: bool,
-    /// When a connection failed that was told of.
+    /// When it made its last remark on a failed connection.
     told_at: Option<Instant>,
     pub taken: u32,
     pub is_over: bool,
@@ -59,7 +59,7 @@ impl<'a, W: Wait + Clock + Copy + Drop, I: Read + AsRawFd + Drop, L: Log + Copy 
     I,
     L,
 > {
-    /// One that no connection came to yet.
+    /// A door to which no connection has come.
     pub fn new(rt: W, alloc: Global, listener: &'a TcpListener, input: Option<I>, log: L) -> Self
         ensures { (result.taken ≡ 0) × (result.is_over ≡ false) }
     {
@@ -78,7 +78,7 @@ impl<'a, W: Wait + Clock + Copy + Drop, I: Read + AsRawFd + Drop, L: Log + Copy 
         }
     }
 
-    /// Tells of a connection that failed, once a second at most, and rests for a moment.
+    /// Remarks on a failed connection, once a second at most, and rests for a moment.
     fn rest(&mut self)
         ensures { self.new.taken ≡ self.old.taken }
     {
@@ -159,8 +159,7 @@ impl<
     }
 }
 
-/// Waits until a connection comes, a line `abort`, or the end of the input. `is_new` tells whether nothing was waited
-/// for yet.
+/// Waits until a connection, a line `abort` or the end of the input comes. `is_new`: this is the first wait.
 fn await_coming<W: Wait + Clock, I: Read + AsRawFd>(
     rt: &W,
     listener: &TcpListener,
@@ -186,8 +185,7 @@ fn await_coming<W: Wait + Clock, I: Read + AsRawFd>(
     unreachable!()
 }
 
-/// Waits until one of them has something, for so many milliseconds, or as long as it takes where these are -1, and tells
-/// which of both.
+/// Waits until one of the two has something, for `ms` milliseconds at most, without a limit for -1. Answers which has.
 fn look<C: Clock>(rt: &C, first: RawFd, second: RawFd, ms: i32) -> (bool, bool) {
     let mut looks = [
         pollfd {
@@ -215,7 +213,7 @@ enum Heard {
     Other,
 }
 
-/// Takes what the input has, if anything: a line `abort`, its end or its failure, or what is let go.
+/// Reads what the input has, if anything: a line `abort`, its end or failure, or what is ignored.
 fn hear<I: Read>(input: &mut I, orders: &mut Orders, has_input: bool) -> Heard {
     if !has_input {
         return Heard::Other;

@@ -43,6 +43,8 @@ impl<R: Relay, L: Log + Drop> Relay for Telling<R, L> {
 
     ghost closed = { λ t. R.closed t.card };
 
+    ghost sure = { λ t. R.sure t.card };
+
     fn channels(&self) -> u8 {
         self.card.channels()
     }
@@ -53,6 +55,10 @@ impl<R: Relay, L: Log + Drop> Relay for Telling<R, L> {
 
     fn is_closed(&self, ch: u8) -> bool {
         self.card.is_closed(ch)
+    }
+
+    fn is_sure(&self) -> bool {
+        self.card.is_sure()
     }
 
     fn close(&mut self, ch: u8) -> Result<(), CardFault> {

@@ -1,4 +1,4 @@
-//! What a server tells of itself.
+//! A server's log.
 
 ghost use Rattle.std.specs.Prelude.{◌≡◌};
 ghost use Rattle.sw_serve.specs.Partings.{parting_of, is_answer};
@@ -8,7 +8,7 @@ use std::fmt::{Display, Formatter, Write};
 use std::net::SocketAddr;
 use sw_session::ServeFault;
 
-/// What a server tells of itself, none of which is what a client sends.
+/// A remark of a server's log. None has anything that a client sends.
 #[derive(Clone, Copy)]
 pub enum Remark {
     /// A connection was taken: its number, from 1, and where it comes from.
@@ -28,7 +28,7 @@ pub enum Remark {
 }
 
 impl Remark {
-    /// Whether it is told also where nothing else is: it answers an operator, or says why the server ends.
+    /// Whether it is written without a log too: it answers an operator, or says why the server ends.
     pub fn is_answer(&self) -> bool
         ensures { result ≡ is_answer self.now }
     {
@@ -45,7 +45,7 @@ pub enum Parting {
     Fault,
     /// What came doesn't begin as a message.
     BrokenHeader,
-    /// The client was told a FatalError with this code.
+    /// The server sent a FatalError with this code.
     FatalError(u8),
     /// It was read from as often as a connection may be.
     ReadBound,
@@ -54,12 +54,12 @@ pub enum Parting {
     NoMemory,
 }
 
-/// Where a server tells of itself. What takes a remark may hold up the thread that tells it.
+/// What takes the remarks of a server. It may delay the thread that makes one.
 pub trait Log {
     fn tell(&self, remark: Remark);
 }
 
-/// Nothing is told.
+/// A log that drops every remark.
 #[derive(Clone, Copy, Debug, Drop)]
 pub struct Silent;
 
@@ -70,8 +70,8 @@ impl Log for Silent {
 /// The code of FatalError where there are too many clients.
 const TOO_MANY_CLIENTS: u8 = 4;
 
-/// How a connection has ended that was served so. `fatal` is the code of the FatalError that was told; `is_heard` tells
-/// whether anything was read.
+/// How a connection has ended that was served with this result. `fatal`: the code of the FatalError that was sent;
+/// `is_heard`: something was read.
 pub fn parting_of(served: Result<(), ServeFault>, fatal: Option<u8>, is_heard: bool) -> Parting
     ensures { result ≡ parting_of served fatal is_heard }
 {

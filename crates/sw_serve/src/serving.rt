@@ -12,7 +12,7 @@ ghost use Rattle.sw_session.specs.Talk.{turns};
 ghost use Rattle.sw_workers.specs.Ahead.{left_ahead};
 ghost use Rattle.sw_workers.specs.Closing.{IsOpen, IsClosedDown};
 ghost use Rattle.sw_workers.specs.Connected.{mishaps, connection_seen, RunsSession};
-ghost use Rattle.sw_workers.specs.Work.{DeskPasses};
+ghost use Rattle.sw_workers.specs.Work.{DeskPasses, desk_seen};
 
 use crate::desk_pool::DeskPool;
 use crate::log::Log;
@@ -31,7 +31,7 @@ use std::time::{Clock, Duration};
 use sw_cage::Job;
 use sw_card::{Meter, Relay};
 use sw_workers::{
-    Closed, Connection, Ended, Gate, Mainframe, Open, Opening, Pause, Shared, SharedDesk,
+    Closed, Connection, Ended, Gate, Line, Mainframe, Open, Opening, Pause, Shared, SharedDesk,
     WorkReceivers, close_down, run_card_worker, run_session, run_timer_worker,
 };
 
@@ -287,10 +287,11 @@ fn attend<
     alloc: Global,
     pool: Arc<DeskPool<H, R, M, G, W>, Global>,
     connection: C,
-) -> Option<Ended<SharedDesk<H, R, M, G, W>, C::In, C::Out>>
+) -> Option<Ended<SharedDesk<H, R, M, G, W>, C::In, C::Out, C::Aside>>
     ensures { IfSome result (λ ended. (desk : _)
-        × RunsSession (λ before entry after. DeskPasses H.first before.part entry after.part)
-        (mishaps C.In.Source C.Out.Sink C.Aside.Sink H.refused) turns
+        × RunsSession (λ before entry after. DeskPasses H.first H.over H.deserted
+        (desk_seen before.part before.serves) entry (desk_seen after.part after.serves))
+        (mishaps C.In.Source C.Out.Sink C.Aside.Sink H.refused ended.reader.reader ended.writer ended.aside) turns
         (connection_seen desk (C.input connection) (C.pauses connection) (C.output connection))
         (connection_seen ended.desk (left_ahead C.In.remaining ended.reader) (C.In.pauses ended.reader.reader)
         (C.Out.contents ended.writer)) ended.result) }
@@ -307,11 +308,12 @@ fn desk_of<
     G: Gate + Drop,
     W: Wait + Clock + Copy + Drop,
     L: Log + Drop,
->(served: Option<Ended<SharedDesk<H, R, M, G, W>, Heard, Told<L>>>) -> Left<H, R, M, G, W> {
+>(served: Option<Ended<SharedDesk<H, R, M, G, W>, Heard, Told<L>, Line>>) -> Left<H, R, M, G, W> {
     let Ended {
         desk,
         reader: _,
         writer,
+        aside: _,
         result,
     } = served?;
     writer.tell_end(result);

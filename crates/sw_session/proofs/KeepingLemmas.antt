@@ -11,7 +11,10 @@ use Rattle.sw_core.specs.declared.ask.Work.{Work}
 use Rattle.sw_core.specs.Panel.{Panel}
 use Rattle.sw_lex.specs.declared.command.Command.{Command}
 use Rattle.sw_core.specs.Seen.{WorkSeen, work_seen, AskSeen, AskSession, AnswerSeen, SaysSession, SaysInstalled, SaysNotInstalled}
-use Rattle.sw_core.specs.Seen.{SaysEjected, SaysNotEjected, SaysTaken, SaysMissed, SaysFailed, SaysBack, SaysWorn}
+use Rattle.sw_core.specs.Seen.{SaysEjected, SaysNotEjected, SaysTaken, SaysMissed, SaysFailed, SaysBack, SaysWorn, failed_in}
+use Rattle.sw_cage.specs.Change.{any_failed}
+use Rattle.sw_cage.proofs.ChannelCallLemmas.{failed_same}
+use Rattle.sw_core.specs.Run.{StepBrings}
 use Rattle.sw_core.specs.Step.{Step, Brings}
 use Rattle.sw_session.specs.declared.desk.View.{View}
 use Rattle.sw_session.specs.declared.desk.Wake.TheVariants.{Again, Over}
@@ -49,13 +52,13 @@ with-panel old new work room available =
     ∙ ap (λ (x : Notes). record old { panel = new.panel; available = x }) available
 
 -- what is told of a piece, and answered
-pub carried : (old new : DeskSeen) (piece : WorkSeen) (ask : AskSeen) (failed : Bool) (answer : AnswerSeen) (brings : Option WorkSeen) → TellsOfPiece piece ask
-    → Step old.panel ask failed answer new.panel → brings ≡ brought answer → new.work ≡ old.work → new.room ≡ old.room
+pub carried : (old new : DeskSeen) (piece : WorkSeen) (ask : AskSeen) (brings : Option WorkSeen) → TellsOfPiece piece ask
+    → StepBrings old.panel ask brings new.panel → new.work ≡ old.work → new.room ≡ old.room
     → new.available ≡ old.available → IsCarried old piece brings new
-carried old new piece ask failed answer brings tells step is work room available = record {
-  c = record { ask = ask; failed = failed; answer = answer; after = new.panel };
-  carries = record { tells = tells; step = step };
-  brings_is = is;
+carried old new piece ask brings tells s work room available = record {
+  c = record { ask = ask; failed = failed_in ask s.answer old.panel.cage.cards new.panel.cage.cards; answer = s.answer; after = new.panel };
+  carries = record { tells = tells; own = s.next.own; step = s.next.step; counts = refl };
+  brings_is = brought-is s.answer brings s.brings;
   leaves = with-panel old new work room available;
 }
 
@@ -129,18 +132,19 @@ follows old told mid ask answer seating same sits is =
 
 -- an ask
 pub passes-ask : (old told mid new : DeskSeen) (ask : SessionAsk) (failed : Bool) (answer : SessionAnswer) (brings : Option WorkSeen) (seating : Seating)
-    → Step old.panel (AskSession ask) failed (SaysSession answer brings) told.panel → told.work ≡ old.work → told.room ≡ old.room → told.available ≡
-    old.available
+    → Step old.panel (AskSession ask) failed (SaysSession answer brings) told.panel → failed ≡ any_failed old.panel.cage.cards told.panel.cage.cards
+    → told.work ≡ old.work → told.room ≡ old.room → told.available ≡ old.available
     → seating ≡ seating_of ask → mid ≡ record told { available = followed told.available answer seating }
     → IsKept mid brings new
     → CorePasses old (Asked ask answer) new
-passes-ask old told mid new ask failed answer brings seating step work room available sits is kept = (
+passes-ask old told mid new ask failed answer brings seating step counts work room available sits is kept = (
   kept.carried,
   record {
     failed = failed;
     brings = brings;
     after = told.panel;
     step = step;
+    counts = counts;
     keeps = subst (λ (d : DeskSeen). Keeps kept.carried d brings new) (follows old told mid ask answer seating (with-panel old told work room available) sits
         is)
         kept.keeps;
@@ -154,18 +158,21 @@ followed-stays notes answer = refl
 
 -- an ask for the command of a unit, by which nobody joins or leaves
 pub passes-unit : (old told new : DeskSeen) (sid : Sid) (command : Command) (answered failed : Bool) (answer : SessionAnswer) (brings : Option WorkSeen)
-    → Step old.panel (AskSession (Unit sid command answered)) failed (SaysSession answer brings) told.panel → told.work ≡ old.work → told.room ≡ old.room
-    → told.available ≡ old.available
+    → Step old.panel (AskSession (Unit sid command answered)) failed (SaysSession answer brings) told.panel
+    → failed ≡ any_failed old.panel.cage.cards told.panel.cage.cards → told.work ≡ old.work → told.room ≡ old.room → told.available ≡ old.available
     → IsKept told brings new
     → CorePasses old (Asked (Unit sid command answered) answer) new
-passes-unit old told new sid command answered failed answer brings step work room available kept =
-    passes-ask old told told new (Unit sid command answered) failed answer brings Stays step work room available refl
+passes-unit old told new sid command answered failed answer brings step counts work room available kept =
+    passes-ask old told told new (Unit sid command answered) failed answer brings Stays step counts work room available refl
     (ap (λ (n : Notes). let r : DeskSeen = record told { available = n } in r) (sym (followed-stays told.available answer))) kept
 
 -- an ask that is held, with nothing changed
 pub passes-held : (d : DeskSeen) (ask : SessionAsk) → Step d.panel (AskSession ask) false (SaysSession (Hold ask) None) d.panel
     → CorePasses d (Asked ask (Hold ask)) d
-passes-held d ask step = ([], record { failed = false; brings = None; after = d.panel; step = step; keeps = refl })
+passes-held d ask step = (
+  [],
+  record { failed = false; brings = None; after = d.panel; step = step; counts = sym (failed_same d.panel.cage.cards); keeps = refl },
+)
 
 -- a wait
 pub passes-wait : (old mid next new : DeskSeen) (piece : WorkSeen) (brings : Option WorkSeen) (limit : Option ℕ) → old ≡ record mid { work = piece ∷ mid.work }

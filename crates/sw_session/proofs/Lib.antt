@@ -21,6 +21,7 @@ pub mod SyncShortLemmas
 pub mod PartsLemmas
 pub mod EngineTakesLemmas
 mod OrderLemmas
+pub mod DeskRunsLemmas
 mod NotingLemmas
 pub mod ServeKnownLemmas
 pub mod ServePartsLemmas

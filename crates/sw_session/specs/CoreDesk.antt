@@ -2,6 +2,7 @@
 use Rattle.std.specs.Prelude.{◌≡◌, ℕ, ◌-◌, ◌^◌, ◌≤◌, Bool, true, false, List, [], ◌∷◌, ◌++◌, length, map, replicate}
 use Rattle.std.specs.Prelude.{Option, None, Some}
 use Rattle.sw_status.specs.StatusModel.{summary_of}
+use Rattle.sw_cage.specs.Change.{any_failed}
 use Rattle.sw_cage.specs.Work.{FinishedSeen, IsDone}
 use Rattle.sw_core.specs.declared.ask.Sid.{Sid}
 use Rattle.sw_core.specs.declared.ask.SessionAsk.{SessionAsk}
@@ -9,7 +10,7 @@ use Rattle.sw_core.specs.declared.ask.SessionAnswer.{SessionAnswer}
 use Rattle.sw_core.specs.declared.ask.Work.{Work}
 use Rattle.sw_core.specs.Panel.{Panel}
 use Rattle.sw_core.specs.Seen.{WorkSeen, Measures, Pauses, AskSeen, AskSession, AskElapsed, AskFinished, AnswerSeen}
-use Rattle.sw_core.specs.Seen.{SaysSession, SaysTaken}
+use Rattle.sw_core.specs.Seen.{SaysSession, SaysTaken, IsOwnAccount, failed_in}
 use Rattle.sw_core.specs.Step.{Step}
 use Rattle.sw_session.specs.declared.desk.View.{View}
 use Rattle.sw_session.specs.declared.desk.Wake.TheVariants.{Again, Over}
@@ -73,10 +74,12 @@ abbrev pub TellsOfPiece : WorkSeen → AskSeen → Type 0
 TellsOfPiece (Pauses ticket micros) ask = ask ≡ AskElapsed ticket
 TellsOfPiece (Measures job) ask = (done : FinishedSeen) × IsDone job done × (ask ≡ AskFinished done)
 
--- the piece is carried out, and the mainframe told
+-- The piece is carried out, and the mainframe told. A card failed in that call where the counts of failures tell so.
 pub record CarriesOut (old : Panel) (piece : WorkSeen) (c : Carried) : Type 0 where
   pub tells : TellsOfPiece piece c.ask
+  pub own : IsOwnAccount c.ask
   pub step : Step old c.ask c.failed c.answer c.after
+  pub counts : c.failed ≡ failed_in c.ask c.answer old.cage.cards c.after.cage.cards
 
 -- The piece is put behind the rest, for which the room may grow.
 pub record PutsBehind (old : DeskSeen) (piece : WorkSeen) (new : DeskSeen) : Type 0 where
@@ -113,13 +116,15 @@ pub record IsCarried (old : DeskSeen) (piece : WorkSeen) (brings : Option WorkSe
   pub brings_is : brings ≡ brought c.answer
   pub leaves : new ≡ record old { panel = c.after }
 
--- an ask is one step of the mainframe, and its work is kept; who joins by it has no message available
+-- An ask is one step of the mainframe, in which a card failed where the counts of failures tell so, and its work is
+-- kept. Who joins by it has no message available.
 pub record AnswersAsk (carried : List Carried) (old : DeskSeen) (ask : SessionAsk) (answer : SessionAnswer)
     (new : DeskSeen) : Type 0 where
   pub failed : Bool
   pub brings : Option WorkSeen
   pub after : Panel
   pub step : Step old.panel (AskSession ask) failed (SaysSession answer brings) after
+  pub counts : failed ≡ any_failed old.panel.cage.cards after.cage.cards
   pub keeps : Keeps carried (record old { panel = after; available = seated old.available ask answer }) brings new
 
 -- the oldest piece is carried out, and what comes of it is kept

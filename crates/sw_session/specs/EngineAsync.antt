@@ -28,7 +28,8 @@ use Rattle.sw_session.specs.EngineStep.{goes, over, reply_step, says, fails, Una
 use Rattle.sw_session.specs.Talk.{turns}
 use Rattle.sw_session.specs.Trace.{Entry, Asked, Waited, Polled, Noted}
 
--- whose second channel it is; up to which count the service requests were told, and up to which they were asked for
+-- the state of the channel: its session, and how many service requests there were at the last one that was said, and at
+-- the last status query
 pub record AsyncStanding : Type 0 where
   pub sid : Sid
   pub told : ℕ
@@ -43,8 +44,8 @@ replies m = says Asynchronous m
 
 -- ---- the first message
 
--- what comes of an answer to Attach: the channel is the second one of that session, and requests are counted from here;
--- a number without such a session is a fault of initialization
+-- what is said to an answer to Attach: the channel is the second one of that session, and counts requests from here; a
+-- number without such a session is a fault of initialization
 abbrev pub AttachesBy : SessionAnswer → List Entry → StepSeen → Option AsyncStanding → Type 0
 AttachesBy (Joined sid) (Polled p view ∷ []) step s' = (p ≡ sid) × (step ≡ replies second_welcome)
     × (s' ≡ Some (second_channel sid view.requests))
@@ -58,7 +59,7 @@ AsksToAttach number (Asked a answer ∷ asked) step s' = (a ≡ Ask.Attach numbe
 AsksToAttach number [] step s' = ⊥
 AsksToAttach number (e ∷ asked) step s' = ⊥
 
--- nothing is asked, and the fault of initialization is told
+-- nothing is asked, and the fault of initialization is said
 abbrev pub MisbeginsSecond : List Entry → StepSeen → Option AsyncStanding → Type 0
 MisbeginsSecond asked step s' = Unasked (fails Asynchronous InvalidInitialization) asked step × (s' ≡ None)
 
@@ -76,7 +77,7 @@ abbrev pub OpensAsync : Kind → ℕ → List Entry → StepSeen → Option Asyn
 OpensAsync kind parameter asked step s' =
     MatchBool (is_second kind) (AttachesNumber parameter asked step s') (MisbeginsSecond asked step s')
 
--- what the code comes to: the second channel of a session, or a reply without one
+-- what is said by the code's result: the second channel of a session, or a reply without one
 abbrev pub attached_step : Result AsyncStanding Reply → StepSeen
 attached_step (Ok s) = replies second_welcome
 attached_step (Err reply) = reply_step Asynchronous reply
@@ -87,7 +88,7 @@ attached_session (Err reply) = None
 
 -- ---- locks
 
--- what became of an ask for a lock: the code of the response; none where the channel ends
+-- the response to an ask for a lock, by its code; without one the channel ends
 abbrev pub lock_reply : Option ℕ → StepSeen
 lock_reply (Some code) = replies (plain Kind.AsyncLockResponse code 0)
 lock_reply None = over
@@ -98,8 +99,8 @@ lock_code (Answer.Lock code) = Some code
 lock_code Broken = Some 3
 lock_code answer = None
 
--- An ask for a lock that was held so often is asked. Held, it is asked again after a wait, and each wait gets what the
--- last one left of the limit; after Over, or at the last turn, the lock was not to be had in time, 0.
+-- The channel asks for a lock by an ask that was held `turn` times. While it is held the channel waits and asks again;
+-- each wait has what the last one left of the limit. After Over, or at the last turn, the code is 0: not in time.
 abbrev pub AwaitsLock : ℕ → SessionAsk → Option ℕ → List Entry → Option ℕ → Type 0
 AwaitsLock turn ask limit (Asked a (Hold b) ∷ Waited l Over ∷ []) code = (a ≡ ask) × (l ≡ limit) × (code ≡ Some 0)
 AwaitsLock turn ask limit (Asked a (Hold b) ∷ Waited l (Again left) ∷ asked) code =
@@ -109,7 +110,7 @@ AwaitsLock turn ask limit (Asked a (Hold b) ∷ asked) code = ⊥
 AwaitsLock turn ask limit (Asked a answer ∷ []) code = (a ≡ ask) × (code ≡ lock_code answer)
 AwaitsLock turn ask limit asked code = ⊥
 
--- control code 1: a lock by this key, exclusive for an empty one, within so many milliseconds
+-- control code 1: a lock by this key, exclusive for an empty one, within `limit` milliseconds
 abbrev pub AsksLock : Sid → List ℕ → ℕ → List Entry → StepSeen → Type 0
 AsksLock sid key limit asked step = (code : Option ℕ) × AwaitsLock 0 (Ask.Lock sid key) (Some limit) asked code
     × (step ≡ lock_reply code)
@@ -128,7 +129,7 @@ AsksForLock sid m asked step =
     MatchBool (m.control == 1) (AsksLock sid m.payload m.parameter asked step)
     (MatchBool (m.control == 0) (ReleasesLock sid asked step) (Unasked miscontrolled asked step))
 
--- who holds locks
+-- whether an exclusive lock is held, and how many sessions hold one
 abbrev pub info_reply : SessionAnswer → StepSeen
 info_reply (Info exclusive holders) = replies (lock_info exclusive holders)
 info_reply answer = over
@@ -139,7 +140,7 @@ TellsLocks sid asked step = ⊥
 
 -- ---- remote and local control
 
--- the codes 0 to 6 are acknowledged, and nothing comes of them (own)
+-- the codes 0 to 6 are acknowledged, and have no effect (own)
 abbrev pub control_reply : ℕ → StepSeen
 control_reply control = if nat_le control 6 then replies (plain Kind.AsyncRemoteLocalResponse 0 0) else miscontrolled
 
@@ -149,7 +150,7 @@ control_reply control = if nat_le control 6 then replies (plain Kind.AsyncRemote
 abbrev pub delivered : Sid → ℕ → List Entry
 delivered sid control = if tells_delivery control then Noted sid false ∷ [] else []
 
--- the status byte is told, with RQS where there were more requests than were asked for
+-- the status byte is said, with RQS where there were more requests than at the last status query
 pub record TellsStatus (s : AsyncStanding) (control : ℕ) (asked : List Entry) (step : StepSeen)
     (s' : AsyncStanding) : Type 0 where
   pub view : View
@@ -158,7 +159,7 @@ pub record TellsStatus (s : AsyncStanding) (control : ℕ) (asked : List Entry) 
       (plain Kind.AsyncStatusResponse (status_byte view.byte view.mav (nat_lt s.polled view.requests)) 0)
   pub counts : s' ≡ record s { polled = max s.polled view.requests }
 
--- A service request is told where there were more of them than were told.
+-- A service request is said where there were more of them than at the last one that was said.
 abbrev pub notice_of : AsyncStanding → View → Option Message
 notice_of s view =
     if nat_lt s.told view.requests
@@ -170,7 +171,7 @@ noticed s view = record s { told = max s.told view.requests }
 
 -- ---- all messages after the first
 
--- what a message says and asks that leaves the standing as it is
+-- what a message says and asks that leaves the channel's state as it is
 abbrev pub RepliesAsync : AsyncRequest → Sid → Message → List Entry → StepSeen → Type 0
 RepliesAsync Request.Size sid m asked step =
     OnDone (Ask.Size sid (size_told m.payload)) Asynchronous size_response asked step

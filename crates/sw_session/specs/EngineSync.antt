@@ -29,8 +29,8 @@ use Rattle.sw_base.specs.Limits.{most_kept}
 use Rattle.sw_session.specs.Talk.{TalksMessage, Settles, Queues, is_done}
 use Rattle.sw_session.specs.Trace.{Entry, Asked, Polled, Noted}
 
--- whose channel it is; the session's macros; whether its second channel was seen to stand; and what has come of a
--- program message that isn't ended
+-- the state of the channel: its session, the session's macros, whether its second channel was seen to be open, and what
+-- has come of a program message that isn't ended
 pub record SyncStanding : Type 0 where
   pub sid : Sid
   pub macros : Table
@@ -46,7 +46,7 @@ responds m = says Synchronous m
 
 -- ---- the first message
 
--- what comes of an answer to Join
+-- what is said to an answer to Join
 abbrev pub joins_step : ℕ → SessionAnswer → StepSeen
 joins_step parameter (Joined sid) = responds (welcome parameter sid.number)
 joins_step parameter Full = fails Synchronous TooManyClients
@@ -56,7 +56,7 @@ abbrev pub joins_session : SessionAnswer → Option SyncStanding
 joins_session (Joined sid) = Some (newly_joined sid)
 joins_session answer = None
 
--- what the code comes to: the session that was joined, or a reply without one
+-- what is said by the code's result: the session that was joined, or a reply without one
 abbrev pub opened_step : ℕ → Result Sid Reply → StepSeen
 opened_step parameter (Ok sid) = responds (welcome parameter sid.number)
 opened_step parameter (Err reply) = reply_step Synchronous reply
@@ -65,7 +65,7 @@ abbrev pub opened_session : Result Sid Reply → Option SyncStanding
 opened_session (Ok sid) = Some (newly_joined sid)
 opened_session (Err reply) = None
 
--- Initialize: a session is asked for
+-- Initialize: the channel asks for a session
 abbrev pub AsksToJoin : ℕ → List Entry → StepSeen → Option SyncStanding → Type 0
 AsksToJoin parameter (Asked a answer ∷ []) step s' = (a ≡ Ask.Join) × (step ≡ joins_step parameter answer)
     × (s' ≡ joins_session answer)
@@ -91,20 +91,20 @@ OpensSync m asked step s' =
 
 -- ---- before a message of a program
 
--- The parts below take the calls from somewhere on, and what is left of them.
+-- The parts below take a list of calls, which begins with their own, and the calls behind those.
 
--- an answer to Attached: a session without its second channel is told so
+-- what is said to an answer to Attached: a FatalError where the session has no second channel
 abbrev pub attended : SessionAnswer → StepSeen
 attended (Done text) = goes []
 attended Missed = fails Synchronous WithoutBothChannels
 attended answer = over
 
--- what keeps a message from being served is said
+-- the reply to a message that is not served
 abbrev pub gate_step : Option Reply → StepSeen
 gate_step None = goes []
 gate_step (Some reply) = reply_step Synchronous reply
 
--- until the second channel was seen to stand, it is asked whether it does
+-- until the second channel was seen to be open, the channel asks whether it is
 abbrev pub Attends : Bool → Sid → List Entry → StepSeen → List Entry → Type 0
 Attends true sid asked step rest = (step ≡ goes []) × (rest ≡ asked)
 Attends false sid (Asked a answer ∷ asked) step rest = (a ≡ Ask.Attached sid) × (step ≡ attended answer)
@@ -115,16 +115,16 @@ Attends false sid asked step rest = ⊥
 abbrev pub interruption : ℕ → List Sent
 interruption id = on Asynchronous (plain Kind.AsyncInterrupted 0 id) ∷ on Synchronous (plain Kind.Interrupted 0 id) ∷ []
 
--- what an interrupt comes to, by the answer to its error
+-- what is said to interrupt, by the answer to its error
 abbrev pub interrupted : ℕ → SessionAnswer → StepSeen
 interrupted id answer = if is_gone answer then over else goes (interruption id)
 
--- what the last answer makes be said
+-- what is said of the last answer: the interrupt, where it was interrupted
 abbrev pub said_by_delivery : ℕ → Delivery → List Sent
 said_by_delivery id Delivery.Interrupted = interruption id
 said_by_delivery id delivery = []
 
--- what the last answer comes to
+-- the step for the last answer, by what became of it
 abbrev pub delivery_step : ℕ → Delivery → StepSeen
 delivery_step id Delivery.Quiet = goes []
 delivery_step id Delivery.Interrupted = goes (interruption id)
@@ -136,13 +136,13 @@ Interrupts sid id (Noted p mav ∷ Asked a answer ∷ asked) step rest =
     (p ≡ sid) × (mav ≡ false) × (a ≡ Ask.Fault sid QueryInterrupted) × (step ≡ interrupted id answer) × (rest ≡ asked)
 Interrupts sid id asked step rest = ⊥
 
--- a message that doesn't tell that the last answer was taken interrupts where one is available
+-- a message that doesn't say that the client took the last answer interrupts one that is available
 abbrev pub LooksForAnswer : Sid → ℕ → List Entry → StepSeen → List Entry → Type 0
 LooksForAnswer sid id (Polled p view ∷ asked) step rest = (p ≡ sid)
     × MatchBool view.mav (Interrupts sid id asked step rest) ((step ≡ goes []) × (rest ≡ asked))
 LooksForAnswer sid id asked step rest = ⊥
 
--- what the control code tells of the last answer
+-- what the control code says of the last answer
 abbrev pub Delivers : Sid → ℕ → ℕ → List Entry → StepSeen → List Entry → Type 0
 Delivers sid control id asked step rest =
     MatchBool (tells_delivery control) ((asked ≡ Noted sid false ∷ rest) × (step ≡ goes []))
@@ -150,7 +150,7 @@ Delivers sid control id asked step rest =
 
 -- ---- program messages
 
--- with one more part; no more is kept than shows whether the message is too long (own)
+-- a message with one more part; no more of it is kept than shows whether it is too long (own)
 abbrev pub with_part : PartialMessage → List ℕ → PartialMessage
 with_part PartialMessage.Nothing bytes = PartialMessage.Kept (take most_kept bytes)
 with_part (PartialMessage.Kept partial) bytes = PartialMessage.Kept (take most_kept (partial ++ bytes))
@@ -165,8 +165,8 @@ kept_of partial = None
 abbrev pub whole : PartialMessage → List ℕ → Option (List ℕ)
 whole partial bytes = kept_of (with_part partial bytes)
 
--- An answer goes out under this identifier, cut to the size that the client told; an empty one is none. Where the
--- session is none any more, or nothing more can be numbered, the channel ends.
+-- An answer is said under this identifier, cut to the client's size; an empty one is not said. Where the session has
+-- ended, or no event can be numbered any more, the channel ends.
 abbrev pub CutsTo : ℕ → ℕ → List ℕ → List Message → Type 0
 CutsTo size id [] parts = parts ≡ []
 CutsTo size id (b ∷ bytes) parts = IsCut (room_of size) id (b ∷ bytes) parts
@@ -176,7 +176,7 @@ Answers id bytes (Max size) step = (parts : List Message) × CutsTo size id byte
     × (step ≡ goes (map (on Synchronous) parts))
 Answers id bytes told step = step ≡ over
 
--- A whole program message is talked over. Then it is asked what size the client told last, and the answer goes out.
+-- A whole program message is carried out. Then the channel asks for the client's size, and says the answer.
 pub record Converses (s : SyncStanding) (id : ℕ) (text : List ℕ) (asked : List Entry) (step : StepSeen)
     (macros : Table) : Type 0 where
   pub talk : List Entry
@@ -202,7 +202,7 @@ abbrev pub GivesTrigger : Bool → Sid → List Entry → SessionAnswer → Type
 GivesTrigger true sid asked final = Queues sid GetNotAllowed asked final []
 GivesTrigger false sid asked final = Settles sid 0 (Ask.Bus sid) asked final []
 
--- what a trigger comes to
+-- the step for a trigger
 abbrev pub trigger_step : SessionAnswer → StepSeen
 trigger_step final = record { out = []; ends = is_gone final }
 
@@ -218,8 +218,8 @@ is_program Request.End = true
 is_program Request.Trigger = true
 is_program request = false
 
--- What each of these messages does once that was done. Short of memory a part of a program message asks nothing, and no
--- more is said of it.
+-- What each of these messages does after that. Where memory is short, a part or the end of a program message asks
+-- nothing, and no more is promised of it.
 abbrev pub Programs : Bool → SyncRequest → SyncStanding → Message → List Entry → StepSeen → SyncStanding → Type 0
 Programs false Request.Part s m asked step s' = Unasked (goes []) asked step
     × (s' ≡ record s { partial = with_part s.partial m.payload })
@@ -230,19 +230,19 @@ Programs true Request.Part s m asked step s' = asked ≡ []
 Programs true Request.End s m asked step s' = asked ≡ []
 Programs short request s m asked step s' = ⊥
 
--- this is said, and then more, which comes from this; the channel ends as that says
+-- these messages are said, then those of a further step, which says whether the channel ends
 abbrev pub SaysMore : List Sent → StepSeen → (StepSeen → Type 0) → Type 0
 SaysMore said step P = (own : StepSeen) × P own × (step ≡ joined (goes said) own)
 
--- A part of a row, and what follows it unless it ends the channel; what both say is said. Where memory runs out in what
--- follows, the part has not ended the channel.
+-- A first step, and the next one unless the first ends the channel; the messages of both are said. Where memory runs
+-- out in the next one, the first has not ended the channel.
 abbrev pub Onward : Bool → (List Entry → StepSeen → SyncStanding → Type 0) → StepSeen → SyncStanding → List Entry
     → StepSeen → SyncStanding → Type 0
 Onward short next first s asked step s' =
     MatchBool first.ends ((short ≡ false) × Unasked first asked step × (s' ≡ s))
     ((second : StepSeen) × next asked second s' × (step ≡ joined first second))
 
--- Data, DataEnd and Trigger: the second channel has to stand, then the last answer is looked at, then the message is
+-- Data, DataEnd and Trigger: the second channel has to be open; then the last answer is looked at; then the message is
 -- served, unless memory runs out there
 abbrev pub Attended : Bool → SyncRequest → SyncStanding → Message → List Entry → StepSeen → SyncStanding → Type 0
 Attended short request s m asked step s' =
@@ -255,13 +255,13 @@ ServesProgram short request s m asked step s' =
     × Onward short (λ calls said t. Attended short request (record s { attached = true }) m calls said t) first s rest
     step s'
 
--- this is asked by a row in which memory ran out
+-- what a row asks in which memory ran out
 abbrev pub FallsShort : (List Entry → StepSeen → SyncStanding → Type 0) → List Entry → Type 0
 FallsShort row asked = (step : StepSeen) × (s' : SyncStanding) × row asked step s'
 
 -- ---- all messages after the first
 
--- DeviceClearComplete: the session is heard again, and no answer is available
+-- DeviceClearComplete: the session's commands are taken again, and no answer is available
 abbrev pub Completes : Sid → List Entry → StepSeen → Type 0
 Completes sid (Asked a answer ∷ asked) step =
     (a ≡ Ask.Cleared sid) × MatchBool (is_done answer)

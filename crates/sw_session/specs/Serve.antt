@@ -1,5 +1,5 @@
--- What a server of one channel asks and writes for what it reads. An engine is asked act by act; one list has each act
--- with what was asked and said for it.
+-- What a server of one channel asks and writes for what it reads. An engine takes one act after another; an exchange is
+-- an act with what was asked and said for it.
 use Rattle.std.specs.Prelude.{◌≡◌, ◌≢◌, ℕ, ◌+◌, ◌<◌, ◌≤◌, ◌⊎◌, Bool, true, false, List, [], ◌∷◌, ◌++◌, length, map}
 use Rattle.std.specs.Prelude.{Option, None, Some, Result, Ok, Err, if◌then◌else◌}
 use Rattle.std.specs.List.{flat_map, list_any}
@@ -39,7 +39,7 @@ acts_for (Skips kind) = Skips kind ∷ []
 acts_for Refuses = Refuses ∷ []
 acts_for Notices = Notices ∷ []
 
--- what the wire has told: a message, or the kind of one that is too large; nothing at a read that a time limit ended
+-- what the decoder gave: a message, or the kind of one that is too large; nothing at a read that a time limit ended
 abbrev pub arrived : Act → List (Result Message Kind)
 arrived (Takes m) = Ok m ∷ []
 arrived (Skips kind) = Err kind ∷ []
@@ -59,7 +59,7 @@ pauses (i ∷ inputs) = is_pause i + pauses inputs
 
 -- ---- exchanges
 
--- an act, what was asked for it, what was said, and what was noted while that was handed over
+-- an act, what was asked for it, what was said, and the notes of a message available made as that was handed over
 pub record Exchange : Type 0 where
   pub act : Act
   pub asked : List Entry
@@ -72,7 +72,7 @@ is_refused (Takes m) = false
 is_refused (Skips kind) = false
 is_refused Notices = false
 
--- how the channel goes on: a wrong prologue ends it, as does a step that says so, with a fatal error or without
+-- how the channel continues: a wrong prologue ends it, and so does a step that says so, with a fatal error or without
 abbrev pub after_step : Bool → StepSeen → AfterStep
 after_step true step = Malformed
 after_step false step =
@@ -110,7 +110,7 @@ asks_of xs = flat_map (λ (x : Exchange). x.asked ++ x.noted) xs
 abbrev pub said_of : List Exchange → List Sent
 said_of xs = flat_map (λ (x : Exchange). x.step.out) xs
 
--- The engine's definition of these exchanges is what was asked, and what the writers got.
+-- What was asked, and what the writers got, is what the engine's definition says of these exchanges.
 pub record Spoken {E D : Type 0} (u : Voice E D) (a b : Point E D) (xs : List Exchange) (after : AfterStep)
     : Type 0 where
   pub speaks : Speaks u.protocol a.engine xs after b.engine
@@ -120,7 +120,7 @@ pub record Spoken {E D : Type 0} (u : Voice E D) (a b : Point E D) (xs : List Ex
 
 -- ---- acts that fail
 
--- what was said to an act was not written whole: its messages were handed over up to one that is not written
+-- the messages said to an act were handed over up to one that is not written
 pub record IsCutOff {E D : Type 0} (u : Voice E D) (a b : Point E D) (act : Act) (fault : ServeFault) : Type 0 where
   pub asked : List Entry
   pub step : StepSeen
@@ -143,7 +143,7 @@ Breaks u a b act Fault.Write = IsCutOff u a b act Fault.Write
 Breaks u a b act Fault.NoMemory = IsCutOff u a b act Fault.NoMemory ⊎ IsStarved u a b act
 Breaks u a b act fault = ⊥
 
--- these acts are gone through up to one that fails
+-- these acts are carried out up to one that fails
 pub record Stops {E D : Type 0} (u : Voice E D) (a b : Point E D) (acts : List Act)
     (fault : ServeFault) : Type 0 where
   pub xs : List Exchange
@@ -154,7 +154,7 @@ pub record Stops {E D : Type 0} (u : Voice E D) (a b : Point E D) (acts : List A
   pub spoken : Spoken u a mid xs Goes
   pub breaks : Breaks u mid b act fault
 
--- these acts are gone through, all of them where the channel goes on, and else up to the one that ends it
+-- these acts are carried out: all of them where the channel continues, else up to the one that ends it
 abbrev pub GoesThrough : {E D : Type 0} → Voice E D → Point E D → Point E D → List Act → AfterStep → Type 0
 GoesThrough u a b acts after =
     (xs : List Exchange) × (rest : List Act) × (acts_of xs ++ rest ≡ acts) × (after ≡ Goes → rest ≡ [])
@@ -178,11 +178,11 @@ abbrev pub ProcessesEach : {E D : Type 0} → Voice E D → List Act → Point E
 ProcessesEach u acts a b (Ok after) = GoesThrough u a b acts after
 ProcessesEach u acts a b (Err fault) = Stops u a b acts fault
 
--- a whole message stands at the front
+-- a whole message is at the front
 abbrev pub HoldsMessage : Pending → Type 0
 HoldsMessage p = (m : Message) × (more : List ℕ) × HasMessage p.bytes m more
 
--- what the wire tells next
+-- what the decoder gives next
 abbrev pub Finds : Pending → Act → Pending → Type 0
 Finds p (Takes m) p' = GivesNext p (Ok (Some m)) p'
 Finds p (Skips kind) p' = GivesNext p (Err (TooLarge kind)) p'
@@ -212,14 +212,14 @@ CountsReceived old new (Ok Bytes) = new ≡ old
 CountsReceived old new (Ok Paused) = PausesBy old new 1
 CountsReceived old new (Err e) = new ≡ old
 
--- a decoder was fed these bytes, and this is what it told
+-- a decoder was fed these bytes, and gave these acts
 pub record TellsActs (p p' : Pending) (read : List ℕ) (inputs : List Act) : Type 0 where
   pub calls : List Call
   pub decodes : Decodes p calls p'
   pub stream : stream_of calls ≡ read
   pub told : told calls ≡ flat_map arrived inputs
 
--- what is pending where a channel goes on, or met a wrong prologue
+-- what is pending where a channel continues, or is at a wrong prologue
 abbrev pub Stands : AfterStep → Pending → Type 0
 Stands Goes p = Waits p.bytes
 Stands Malformed p = HasWrongPrologue p.bytes
@@ -233,7 +233,7 @@ HearsInputs u inputs p a b (Err fault) =
     Stops u a b (flat_map acts_for inputs) fault
     ⊎ ((fault ≡ Fault.NoMemory) × GoesThrough u a b (flat_map acts_for inputs) Goes × HoldsMessage p)
 
--- all that the wire tells is gone through, or what it tells up to an end of the channel or a fault
+-- all that the decoder gives is carried out, or what it gives up to an end of the channel or a fault
 pub record HearsAll {E D : Type 0} (u : Voice E D) (p p' : Pending) (a b : Point E D)
     (result : Result AfterStep ServeFault) : Type 0 where
   pub inputs : List Act
@@ -272,7 +272,7 @@ pub record Progress : Type 0 where
 abbrev pub progress : List Act → Pending → List ℕ → ℕ → Option (List ℕ) → Progress
 progress acts p lost count left = record { acts = acts; pending = p; lost = lost; count = count; left = left }
 
--- A run ends well where all was read and gone through, or where the channel ended.
+-- A run ends well where all was read and carried out, or where the channel ended.
 abbrev pub EndsWell : {E D : Type 0} → Voice E D → Point E D → Point E D → Progress → Type 0
 EndsWell u a b so_far = (GoesThrough u a b so_far.acts Goes × Waits so_far.pending.bytes × IsAtEnd so_far.left)
     ⊎ GoesThrough u a b so_far.acts Ends
@@ -281,8 +281,8 @@ EndsWell u a b so_far = (GoesThrough u a b so_far.acts Goes × Waits so_far.pend
 abbrev pub LacksMemory : Pending → List ℕ → Type 0
 LacksMemory p lost = (0 < length lost) ⊎ HoldsMessage p
 
--- Why a run fails: after a read fault all that was read is gone through; a wrong prologue stands in a message's place,
--- or the engine met a fatal error; ReadBound comes after as many bytes and pauses as there are turns.
+-- Why a run fails. After a read fault all that was read is carried out. Wire is a wrong prologue, Fatal a fatal error
+-- that the engine said. ReadBound comes after as many bytes and pauses as there are turns.
 abbrev pub FailsBy : {E D : Type 0} → Voice E D → Point E D → Point E D → Progress → ℕ → ServeFault → Type 0
 FailsBy u a b so_far turns Fault.Read = GoesThrough u a b so_far.acts Goes × Waits so_far.pending.bytes
 FailsBy u a b so_far turns Fault.Write = Stops u a b so_far.acts Fault.Write
@@ -298,7 +298,7 @@ EndsTurn u a b so_far (Ok On) = GoesThrough u a b so_far.acts Goes × Waits so_f
 EndsTurn u a b so_far (Ok Over) = EndsWell u a b so_far
 EndsTurn u a b so_far (Err fault) = FailsBy u a b so_far 0 fault × (fault ≡ Fault.ReadBound → ⊥)
 
--- where a server stands, what is left to be read, and how many reads a time limit has ended so far, where that is known
+-- a server's point, what is left to be read, and how many reads a time limit has ended so far, where that is known
 pub record Course (E D : Type 0) : Type 0 where
   pub point : Point E D
   pub input : Option (List ℕ)
@@ -307,7 +307,7 @@ pub record Course (E D : Type 0) : Type 0 where
 abbrev pub course : {E D : Type 0} → Point E D → Option (List ℕ) → Option ℕ → Course E D
 course a input pauses = record { point = a; input = input; pauses = pauses }
 
--- one read, and what is gone through for it
+-- one read, and what is carried out for it
 pub record TakesServerTurn {E D : Type 0} (u : Voice E D) (p p' : Pending) (before after : Course E D)
     (result : Result Next ServeFault) : Type 0 where
   pub read : List ℕ
@@ -325,9 +325,9 @@ abbrev pub EndsRun : {E D : Type 0} → Voice E D → Point E D → Point E D �
 EndsRun u a b so_far turns (Ok _) = EndsWell u a b so_far
 EndsRun u a b so_far turns (Err fault) = FailsBy u a b so_far turns fault
 
--- These bytes were read, however they were cut. The messages that stand in them are what the engine is asked, as far as
--- the run came; where it waits for more, or stands at a wrong prologue, those are all messages of the stream. Where
--- the reader counts the reads that a time limit ended, the inputs have a pause for each of them, and no other.
+-- These bytes were read, however they were cut. The engine takes the messages that are in them, as far as the run came;
+-- where it waits for more, or is at a wrong prologue, those are all messages of the stream. Where the reader counts the
+-- reads that a time limit ended, the inputs have a pause for each of them, and no other.
 pub record RunsChannel {E D : Type 0} (u : Voice E D) (turns : ℕ) (before after : Course E D)
     (result : Result (Unit {0}) ServeFault) : Type 0 where
   pub read : List ℕ
@@ -342,7 +342,7 @@ pub record RunsChannel {E D : Type 0} (u : Voice E D) (turns : ℕ) (before afte
   pub ends : EndsRun u before.point after.point
       (progress (flat_map acts_for inputs) pending lost (length read + pauses inputs) after.input) turns result
 
--- a session that was joined is left, and nothing else is asked
+-- the channel leaves a session that it joined, and asks nothing else
 abbrev pub LeavesSession : {D : Type 0} → (D → Entry → D → Type 0) → Option Sid → D → D → Type 0
 LeavesSession passes None d d' = d' ≡ d
 LeavesSession passes (Some sid) d d' = (answer : SessionAnswer) × passes d (Asked (Ask.Leave sid) answer) d'
@@ -351,7 +351,7 @@ LeavesSession passes (Some sid) d d' = (answer : SessionAnswer) × passes d (Ask
 abbrev pub with_desk : {E D : Type 0} → D → Course E D → Course E D
 with_desk d c = course (point c.point.engine d c.point.main c.point.side) c.input c.pauses
 
--- a run, and then the session is left
+-- a run, and then the channel leaves its session
 pub record ServesAndLeaves {E D : Type 0} (u : Voice E D) (turns : ℕ) (before after : Course E D)
     (result : Result (Unit {0}) ServeFault) : Type 0 where
   pub desk : D

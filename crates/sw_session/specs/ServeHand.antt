@@ -18,12 +18,12 @@ is_answer_part Kind.Data = true
 is_answer_part Kind.DataEnd = true
 is_answer_part kind = false
 
--- right before each part of an answer is handed over, it is noted that a message is available for the session
+-- the server notes that a message is available for the session right before it hands each part of an answer over
 abbrev pub notes_before : Option Sid → Sent → List Entry
 notes_before None s = []
 notes_before (Some sid) s = if is_answer_part s.message.kind then Noted sid true ∷ [] else []
 
--- what is noted where these messages are handed over
+-- the notes of these messages, as they are handed over
 abbrev pub availability_notes : Option Sid → List Sent → List Entry
 availability_notes sid said = flat_map (notes_before sid) said
 

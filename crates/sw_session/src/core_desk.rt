@@ -3,7 +3,9 @@
 ghost use Rattle.std.specs.Prelude.{◌≡◌, ◌≤◌, Bool, true, [], ◌∷◌, ◌++◌, None, Some, IfSome, IfNone};
 ghost use Rattle.sw_core.specs.Seen.{AskSeen, work_seen, AskSession, SaysSession};
 ghost use Rattle.sw_core.specs.declared.ask.SessionAsk.TheVariants.{Unit};
-ghost use Rattle.sw_core.specs.Step.{Step, StepBrings};
+ghost use Rattle.sw_cage.specs.Change.{any_failed};
+ghost use Rattle.sw_core.specs.Run.{StepBrings};
+ghost use Rattle.sw_core.specs.Step.{Step};
 ghost use Rattle.sw_session.specs.Available.{followed};
 ghost use Rattle.sw_session.specs.CoreDesk.{IsKept, IsCarried, IsFull, TellsOfPiece, WaitsOut, CorePasses};
 ghost use Rattle.sw_session.specs.CoreDesk.{desk_over, piece_seen};
@@ -189,8 +191,9 @@ impl<R: Relay, M: Meter> CoreDesk<R, M> {
         work: &mut Option<Work<M>>,
     )
         requires empty { work.old ≡ None }
-        ensures step { (failed : Bool)
-            × Step self.old.panel (AskSession ask) failed (SaysSession answer.new (work_seen work.new)) self.new.panel }
+        ensures step { Step self.old.panel (AskSession ask)
+            (any_failed self.old.panel.cage.cards self.new.panel.cage.cards)
+            (SaysSession answer.new (work_seen work.new)) self.new.panel }
         ensures work { self.new.work ≡ self.old.work }
         ensures room { self.new.room ≡ self.old.room }
         ensures available { self.new.available ≡ self.old.available }
@@ -209,7 +212,8 @@ impl<R: Relay, M: Meter> CoreDesk<R, M> {
         work: &mut Option<Work<M>>,
     )
         requires empty { work.old ≡ None }
-        ensures step { (failed : Bool) × Step self.old.panel (AskSession (Unit sid command answered)) failed
+        ensures step { Step self.old.panel (AskSession (Unit sid command answered))
+            (any_failed self.old.panel.cage.cards self.new.panel.cage.cards)
             (SaysSession answer.new (work_seen work.new)) self.new.panel }
         ensures work { self.new.work ≡ self.old.work }
         ensures room { self.new.room ≡ self.old.room }

@@ -2,6 +2,7 @@
 
 ghost use Rattle.sw_session.specs.Law.{TalkIsDetermined, CoreTalkIsDetermined, CoreRestIsDetermined};
 ghost use Rattle.sw_session.specs.Available.{NoteLeavesOthers};
+ghost use Rattle.sw_session.specs.DeskRuns.{CoreDeskRuns};
 ghost use Rattle.sw_session.specs.Law.{PartsAreOneMessage};
 ghost use Rattle.sw_session.specs.Order.{WorkIsDoneInOrder, WorkIsKeptWhereThereIsRoom};
 
@@ -21,7 +22,8 @@ pub fn talk_is_determined()
 
 /// A law: over a mainframe the message, the macros, what is measured and what comes of the cards determine what is
 /// written, the macros after it and the desk that is left but for its room, where no growth is refused. What comes of
-/// the cards: in which calls one fails, and how often each has failed after such a call.
+/// the cards: in which calls one fails, how often each has failed after such a call, and whether a card that is asked
+/// says that it is sure of its relays.
 pub fn core_talk_is_determined()
     ensures { CoreTalkIsDetermined }
 {
@@ -42,6 +44,13 @@ pub fn core_rest_is_determined()
 /// out in it and then what is outstanding after it.
 pub fn work_is_done_in_order()
     ensures { WorkIsDoneInOrder }
+{}
+
+/// A law: what a `CoreDesk` does over its mainframe is a run, in which a card failed exactly where a count of failures
+/// tells so: its events are, in their order, each ask of the sessions with its answer, and what is told of the work that
+/// was carried out.
+pub fn core_desk_runs()
+    ensures { CoreDeskRuns }
 {}
 
 /// A law: a `CoreDesk` carries a piece of work out at once only where keeping it would take more memory: no ask does so

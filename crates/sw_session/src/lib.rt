@@ -10,7 +10,7 @@
 //! the message, the macros and the desk's answers leave no choice (`talk_is_determined`), over a mainframe the message,
 //! the macros, what is measured and which calls of cards fail leave none (`core_talk_is_determined`,
 //! `core_rest_is_determined`), where no growth was refused. A desk's work is carried out in the order in which it came
-//! (`work_is_done_in_order`).
+//! (`work_is_done_in_order`). What a `CoreDesk` does is a run of its mainframe (`core_desk_runs`).
 //!
 //! `Engine` is one of the two channels of a HiSLIP session (IVI-6.1), and its contract what is asked and said to each
 //! message (`TakesMessage`). `serve_channel` serves a channel over any reader, two writers and any desk: what is
@@ -39,8 +39,9 @@ pub use core_desk::CoreDesk;
 pub use desk::{Desk, View, Wake};
 pub use engine::{Channel, Engine, Sent, Step};
 pub use laws::{
-    core_rest_is_determined, core_talk_is_determined, note_leaves_others, parts_are_one_message,
-    talk_is_determined, work_is_done_in_order, work_is_kept_where_there_is_room,
+    core_desk_runs, core_rest_is_determined, core_talk_is_determined, note_leaves_others,
+    parts_are_one_message, talk_is_determined, work_is_done_in_order,
+    work_is_kept_where_there_is_room,
 };
 pub use servers::{
     Memory, ServeFault, Sink, Source, Unread, Unwritten, serve_async, serve_channel, serve_sync,

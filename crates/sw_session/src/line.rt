@@ -20,7 +20,8 @@ const ROOM: usize = 64;
 /// Takes memory for a short answer, as what is told of a register or of one error, before it is asked for.
 #[inline(always)]
 pub fn make_room(out: &mut Vec<u8>) -> Result<(), AllocError>
-    ensures { out.new.items ≡ out.old.items }
+    ensures same { out.new.items ≡ out.old.items }
+    ensures room { OnOk result (length out.new.items + 64 ≤ vec_capacity out.new) }
 {
     out.reserve(ROOM)
 }

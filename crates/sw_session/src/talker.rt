@@ -1,7 +1,8 @@
 //! The talk about one program message.
 
-ghost use Rattle.std.specs.Prelude.{◌≡◌, [], Ok, Err, true, false};
+ghost use Rattle.std.specs.Prelude.{◌≡◌, ◌+◌, ◌≤◌, [], length, Ok, Err, true, false};
 ghost use Rattle.std.specs.Io.BufRead.{strip_last};
+ghost use Rattle.std.specs.Vec.{vec_capacity};
 ghost use Rattle.sw_lex.specs.Unit.{unit_of};
 ghost use Rattle.sw_lex.specs.Meaning.{Nodes, path_of};
 ghost use Rattle.sw_macro.specs.Table.{Table, no_macros};
@@ -384,6 +385,7 @@ fn has_answers(out: &[u8]) -> bool
 fn lacks_room(command: &Command, out: &mut Vec<u8>) -> bool
     ensures reads { result ≡ true → reads_out command.now ≡ true }
     ensures same { out.new.items ≡ out.old.items }
+    ensures room { result ≡ false → reads_out command.now ≡ true → length out.new.items + 64 ≤ vec_capacity out.new }
 {
     reads_out(command) && make_room(out).is_err()
 }

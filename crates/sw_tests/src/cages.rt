@@ -40,6 +40,10 @@ impl Driver for Recorder {
         self.coils.drive(ch, on)
     }
 
+    fn is_sure(&self) -> bool {
+        true
+    }
+
     fn cut(&mut self) {
         let _ = self.record.cuts.fetch_add(1, Ordering::SeqCst);
         self.coils.cut();

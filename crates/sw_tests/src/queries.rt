@@ -11,7 +11,7 @@ use sw_core::{Core, SessionAnswer, SessionAsk, Sid, Work};
 use sw_lex::Command;
 
 /// Queries of relays and settings.
-const SETTINGS: [&[u8]; 21] = [
+const SETTINGS: [&[u8]; 22] = [
     b"ROUT:CLOS? (@1!1)",
     b"ROUT:OPEN? (@1!1,2!1)",
     b"ROUT:CLOS:STAT?",
@@ -30,13 +30,14 @@ const SETTINGS: [&[u8]; 21] = [
     b"TRAC:POIN?",
     b"TRAC:POIN:ACT?",
     b"DIAG:SCAN:BOUN?",
+    b"DIAG:SCAN:CHEC?",
     b"INIT:CONT?",
     b"FETC?",
     b"*OPC?",
 ];
 
 /// Queries of status, errors and the instrument.
-const STATUS: [&[u8]; 22] = [
+const STATUS: [&[u8]; 27] = [
     b"*IDN?",
     b"*TST?",
     b"*STB?",
@@ -59,6 +60,11 @@ const STATUS: [&[u8]; 22] = [
     b"SYST:HELP:HEAD?",
     b"SYST:VERS?",
     b"SYST:ERR:NEXT?",
+    b"SYST:CTYP? 1",
+    b"SYST:CTYP? 4",
+    b"SYST:CTYP:GRO? 1",
+    b"SYST:CTYP:STAT? 1",
+    b"SYST:CTYP:STAT? 16",
 ];
 
 /// Whether the answer is a text.

@@ -37,6 +37,10 @@ impl Driver for Recorder {
         self.coils.drive(ch, on)
     }
 
+    fn is_sure(&self) -> bool {
+        true
+    }
+
     fn cut(&mut self) {
         self.coils.cut();
     }

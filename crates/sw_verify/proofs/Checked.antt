@@ -13,7 +13,7 @@ use Rattle.sw_trigger.specs.Counts.{reads}
 use Rattle.sw_verify.specs.Channels.{Channels, same_channel, is_among, with_channel}
 use Rattle.sw_verify.specs.Sound.{CanCloseOne, CanCloseEach, IsSound}
 use Rattle.sw_verify.specs.Check.{IsBlocked, IsBlockedAt}
-use Rattle.sw_verify.specs.Stops.{IsBarred, IsBarredAt}
+use Rattle.sw_verify.specs.Stops.{IsBarred, IsBarredAt, IsFirstBarred}
 use Rattle.sw_verify.specs.declared.refusal.Refusal.{Refusal}
 use Rattle.sw_verify.specs.declared.refusal.Refusal.TheVariants.{NoChannel, GroupClash}
 use Rattle.sw_verify.proofs.Round.{anyone, same_channel_is, same_channel_self, sound_exactly}
@@ -113,6 +113,11 @@ barred_blocked layout b (c ∷ p) r t h =
     (λ (x : (is_present layout c ≡ true) × IsBlocked layout b c × (r ≡ GroupClash)). inl x.1) w)
     (λ (w : CanCloseOne layout b c × IsBarredAt layout (with_channel c b) p r). inr (barred_blocked layout (with_channel c b) p r there.1 w.1))
     h
+
+-- a position that can't be closed is there
+pub any_barred : (layout : Layout) (b : Channels) (ps : List Position) (p : Position) → IsFirstBarred layout b ps p
+    → Any (λ (q : Position). (r : Refusal) × IsBarredAt layout b q r) ps
+any_barred layout b ps p f = (f.at, p, f.within, f.there, (f.cause, f.barred))
 
 pub each_not_barred : (layout : Layout) (b : Channels) (p : Position) (r : Refusal) → CanCloseEach layout b p → IsBarredAt layout b p r → ⊥
 each_not_barred layout b p r k h = each_not_blocked layout b p k (barred_blocked layout b p r (each_present layout b p k) h)

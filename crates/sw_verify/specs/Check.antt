@@ -1,5 +1,5 @@
 -- When a scan may begin, and why not.
-use Rattle.std.specs.Prelude.{◌≡◌, ℕ, ◌<◌, true, false, [], ◌∷◌, length, Any, ◌⊎◌}
+use Rattle.std.specs.Prelude.{◌≡◌, ℕ, ◌<◌, true, false, List, [], ◌∷◌, length, codes, Any, ◌⊎◌}
 use Rattle.sw_channel.specs.Positions.{Position}
 use Rattle.sw_base.specs.Layout.{Channel, Layout, is_present, has_meter, IsClash}
 use Rattle.sw_base.specs.declared.error.ScpiError.{ScpiError}
@@ -53,6 +53,18 @@ refusal_number BadJump = 7
 refusal_number LeftClosed = 8
 refusal_number NotClosed = 9
 refusal_number NoMemory = 10
+
+abbrev pub refusal_name : Refusal → List ℕ
+refusal_name EmptyList = codes "EmptyList"
+refusal_name NoChannel = codes "NoChannel"
+refusal_name NoMeter = codes "NoMeter"
+refusal_name GroupClash = codes "GroupClash"
+refusal_name TooManyReadings = codes "TooManyReadings"
+refusal_name BadNesting = codes "BadNesting"
+refusal_name BadJump = codes "BadJump"
+refusal_name LeftClosed = codes "LeftClosed"
+refusal_name NotClosed = codes "NotClosed"
+refusal_name NoMemory = codes "NoMemory"
 
 -- the refusal applies, and none with a lower number does
 pub record IsFirst (r : Refusal) (p : Snapshot) : Type 0 where

@@ -1,5 +1,6 @@
 -- Why the verifier refuses a step.
-use Rattle.std.specs.Prelude.{◌≡◌, true, false, List, [], ◌∷◌, ◌⊎◌}
+use Rattle.std.specs.Prelude.{◌≡◌, ℕ, ◌<◌, true, false, List, [], ◌∷◌, length, take, slice_index_or, ◌⊎◌}
+use Rattle.std.specs.List.{AllByRecursion}
 use Rattle.sw_base.specs.Layout.{Channel, Layout, is_present}
 use Rattle.sw_channel.specs.Positions.{Position}
 use Rattle.sw_code.specs.declared.code.Step.{Step}
@@ -21,6 +22,15 @@ abbrev pub IsBarredAt : Layout → Channels → Position → Refusal → Type 0
 IsBarredAt layout b [] r = ⊥
 IsBarredAt layout b (c ∷ p) r =
     IsBarred layout b c r ⊎ (CanCloseOne layout b c × IsBarredAt layout (with_channel c b) p r)
+
+-- of positions that are closed each by itself, the first that can't be
+pub record IsFirstBarred (layout : Layout) (b : Channels) (positions : List Position) (p : Position) : Type 0 where
+  pub at : ℕ
+  pub within : at < length positions
+  pub there : slice_index_or positions at p ≡ p
+  pub before : AllByRecursion (CanCloseEach layout b) (take at positions)
+  pub cause : Refusal
+  pub barred : IsBarredAt layout b p cause
 
 -- from left to right a channel of the position is not mine, when its turn comes
 abbrev pub IsNotMineAt : Channels → Position → Type 0

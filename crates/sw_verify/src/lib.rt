@@ -38,7 +38,7 @@ mod verified;
 pub use course::Course;
 pub use layout::{Layout, Slot};
 pub use plan::Plan;
-pub use ready::check;
+pub use ready::{check, first_blocked};
 pub use refusal::Refusal;
 pub use snapshot::{BoxedSnapshot, Snapshot};
 pub use sources::Sources;

@@ -1,13 +1,11 @@
 //! The check of a scan before it begins.
 
-ghost use Rattle.std.specs.Prelude.{◌≡◌, ◌↔◌, true, false, Any, IsOk, IfErr};
+ghost use Rattle.std.specs.Prelude.{◌≡◌, ◌↔◌, IsOk, IfErr, IfSome, IfNone};
 ghost use Rattle.std.specs.List.{list_all, AllByRecursion};
-ghost use Rattle.sw_channel.specs.Positions.{Position as Joined};
 ghost use Rattle.sw_base.specs.Layout.{is_present};
 ghost use Rattle.sw_verify.specs.Channels.{is_among};
 ghost use Rattle.sw_verify.specs.Sound.{CanCloseEach};
-ghost use Rattle.sw_verify.specs.Stops.{IsBarredAt};
-ghost use Rattle.sw_verify.specs.declared.refusal.Refusal.{Refusal as Why};
+ghost use Rattle.sw_verify.specs.Stops.{IsFirstBarred};
 ghost use Rattle.sw_verify.specs.Check.{IsReady, IsFirst};
 
 use crate::layout::Layout;
@@ -36,7 +34,7 @@ pub fn check(snapshot: &Snapshot) -> Result<(), Refusal>
     if !layout.has_meter(settings.meter()) {
         return Err(Refusal::NoMeter);
     }
-    if !are_free(layout, snapshot.closed.as_slice(), used) {
+    if let Some(_) = first_blocked(layout, snapshot.closed.as_slice(), used) {
         return Err(Refusal::GroupClash);
     }
     if u64::from(settings.points()) < settings.readings() {
@@ -57,22 +55,24 @@ fn all_present(layout: &Layout, channels: &[Chan]) -> bool
     channels.iter().all(|c| layout.has_channel(*c))
 }
 
-/// Whether each of the positions can be closed where these channels are.
-fn are_free(layout: &Layout, closed: &[Chan], positions: &[Position]) -> bool
-    ensures free { result ≡ true
-        → AllByRecursion (CanCloseEach layout.now (is_among closed.now)) positions.now }
-    ensures blocked { result ≡ false
-        → Any (λ (p : Joined). (r : Why) × IsBarredAt layout.now (is_among closed.now) p r) positions.now }
+/// The first of the positions that can't be closed where these channels are, each judged by itself.
+pub fn first_blocked<'a>(
+    layout: &Layout,
+    closed: &[Chan],
+    positions: &'a [Position],
+) -> Option<&'a Position>
+    ensures free { IfNone result (AllByRecursion (CanCloseEach layout.now (is_among closed.now)) positions.now) }
+    ensures blocked { IfSome result (λ p. IsFirstBarred layout.now (is_among closed.now) positions.now p.now) }
 {
     let mut ledger = Ledger::room();
     ledger.begin(layout, closed);
     for p in positions {
         if let Err(_) = ledger.close(layout, p) {
-            return false;
+            return Some(p);
         }
         if let Err(_) = ledger.open(layout, p) {
             unreachable!();
         }
     }
-    true
+    None
 }

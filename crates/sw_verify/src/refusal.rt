@@ -1,7 +1,7 @@
 //! Why a scan may not begin.
 
 ghost use Rattle.std.specs.Prelude.{◌≡◌};
-ghost use Rattle.sw_verify.specs.Check.{refusal_number, error_of};
+ghost use Rattle.sw_verify.specs.Check.{refusal_number, refusal_name, error_of};
 
 use sw_base::ScpiError;
 
@@ -46,6 +46,24 @@ impl Refusal {
             Refusal::LeftClosed => 8,
             Refusal::NotClosed => 9,
             Refusal::NoMemory => 10,
+        }
+    }
+
+    /// Its name.
+    pub fn name(self) -> &'static str
+        ensures { result.now ≡ refusal_name self }
+    {
+        match self {
+            Refusal::EmptyList => "EmptyList",
+            Refusal::NoChannel => "NoChannel",
+            Refusal::NoMeter => "NoMeter",
+            Refusal::GroupClash => "GroupClash",
+            Refusal::TooManyReadings => "TooManyReadings",
+            Refusal::BadNesting => "BadNesting",
+            Refusal::BadJump => "BadJump",
+            Refusal::LeftClosed => "LeftClosed",
+            Refusal::NotClosed => "NotClosed",
+            Refusal::NoMemory => "NoMemory",
         }
     }
 

@@ -10,6 +10,7 @@ use Rattle.sw_base.specs.declared.error.ScpiError.{ScpiError}
 use Rattle.sw_base.specs.declared.error.ScpiError.TheVariants.{UndefinedHeader, DataCorruptOrStale, OutOfMemory, HardwareMissing}
 use Rattle.sw_base.specs.declared.error.ScpiError.TheVariants.{SettingsConflict, HardwareError}
 use Rattle.sw_lex.specs.declared.command.Command.{Command}
+use Rattle.sw_lex.specs.declared.command.SlotQuery.{SlotQuery}
 use Rattle.sw_lex.specs.declared.command.Plain.{Plain}
 use Rattle.sw_lex.specs.declared.command.Channels.{Channels}
 use Rattle.sw_trigger.specs.Settings.{SettingsSeen}
@@ -20,9 +21,10 @@ use Rattle.sw_core.specs.declared.ask.SessionAsk.{SessionAsk}
 use Rattle.sw_core.specs.declared.ask.SessionAnswer.{SessionAnswer}
 use Rattle.sw_core.specs.declared.ask.SessionAnswer.TheVariants.{Done, Refused, Hold}
 use Rattle.sw_core.specs.Panel.{Panel, is_running}
-use Rattle.sw_core.specs.Action.{Effect, TellsText, TellsReadings, ReadsOut, SetsStatus, SetsUp, ClosesListed, OpensListed, TellsRelays, Changes}
+use Rattle.sw_core.specs.Action.{Effect, TellsText, TellsReadings, ReadsOut, SetsStatus, SetsUp, ClosesListed, OpensListed, TellsHardware, TellsSurety}
+use Rattle.sw_core.specs.Action.{Changes}
 use Rattle.sw_core.specs.Action.{Resets, reset, aborted, Triggers, RefusesWith, IsOfMacros, Initiates, Action, AtOnce, BetweenScans, AfterScan, action_of}
-use Rattle.sw_core.specs.Step.{StepClose, StepOpen, StepFlags, StepText, StepDone, StepSetting, StepRefused, StepReadings, StepAlone}
+use Rattle.sw_core.specs.Step.{StepClose, StepOpen, StepHardware, StepSurety, StepText, StepDone, StepSetting, StepRefused, StepReadings, StepAlone}
 use Rattle.sw_core.specs.Step.{Happens, StepEffect, StepHeld, StepAction}
 use Rattle.sw_core.specs.Seen.{WorkSeen}
 use Rattle.sw_workers.specs.Waking.{may_end}
@@ -75,6 +77,9 @@ leaves_command p available (Command.Plain Plain.Read) = tt
 leaves_command p available (Command.Query query) = tt
 leaves_command p available (Command.LayerQuery query layer) = tt
 leaves_command p available (Command.GroupQuery query group) = tt
+leaves_command p available (Command.SlotQuery SlotQuery.Kind slot) = tt
+leaves_command p available (Command.SlotQuery SlotQuery.Groups slot) = tt
+leaves_command p available (Command.SlotQuery SlotQuery.State slot) = tt
 leaves_command p available (Command.ReadOut read) = tt
 leaves_command p available (Command.Signal layer) = refl
 leaves_command p available (Command.Continuous true) = tt
@@ -103,12 +108,16 @@ leaves_open p chans f (Refused HardwareMissing) q h = leaves_by p q (ap (λ (x :
 leaves_open p chans f (Refused HardwareError) q h = leaves_by p q (ap (λ (x : Panel). x.sessions) h.2.1) (ap is_running h.2.1)
 leaves_open p chans f a q h = absurd h
 
-leaves_flags : {ends : Bool} (p : Panel) (closed : Bool) (chans : List Channel) (f : Bool) (a : SessionAnswer) (q : Panel) → StepFlags p closed chans f a q →
+leaves_hardware : {ends : Bool} (p : Panel) (there : Bool) (text : List ℕ) (f : Bool) (a : SessionAnswer) (q : Panel) → StepHardware p there text f a q →
     Leaves ends p q
-leaves_flags p closed chans f (Done (Some text)) q h = leaves_by p q (ap (λ (x : Panel). x.sessions) h.3) (ap is_running h.3)
-leaves_flags p closed chans f (Refused HardwareMissing) q h = leaves_by p q (ap (λ (x : Panel). x.sessions) h.2) (ap is_running h.2)
-leaves_flags p closed chans f (Refused OutOfMemory) q h = leaves_by p q (ap (λ (x : Panel). x.sessions) h.2) (ap is_running h.2)
-leaves_flags p closed chans f a q h = absurd h
+leaves_hardware p there text f (Done (Some t)) q h = leaves_by p q (ap (λ (x : Panel). x.sessions) h.3) (ap is_running h.3)
+leaves_hardware p there text f (Refused HardwareMissing) q h = leaves_by p q (ap (λ (x : Panel). x.sessions) h.2) (ap is_running h.2)
+leaves_hardware p there text f (Refused OutOfMemory) q h = leaves_by p q (ap (λ (x : Panel). x.sessions) h.2) (ap is_running h.2)
+leaves_hardware p there text f a q h = absurd h
+
+leaves_surety : {ends : Bool} (p : Panel) (known : Option (List ℕ)) (f : Bool) (a : SessionAnswer) (q : Panel) → StepSurety p known f a q → Leaves ends p q
+leaves_surety p known f (Done (Some t)) q h = leaves_by p q (ap (λ (x : Panel). x.sessions) h.2) (ap is_running h.2)
+leaves_surety p known f a q h = absurd h
 
 leaves_text : {ends : Bool} (p : Panel) (text : List ℕ) (status : StatusSeen) (f : Bool) (a : SessionAnswer) (q : Panel) → StepText p text status f a q → Leaves
     ends p q
@@ -142,7 +151,8 @@ leaves_alone (SetsStatus after) p f a q n h = leaves_done p (record p { status =
 leaves_alone (SetsUp Fits error after) p f a q n h = leaves_setting p Fits error (after p.settings) f a q h
 leaves_alone (ClosesListed chans) p f a q n h = leaves_close p chans f a q h
 leaves_alone (OpensListed chans) p f a q n h = leaves_open p chans f a q h
-leaves_alone (TellsRelays closed chans) p f a q n h = leaves_flags p closed chans f a q h
+leaves_alone (TellsHardware there text) p f a q n h = leaves_hardware p (there p) (text p) f a q h
+leaves_alone (TellsSurety known) p f a q n h = leaves_surety p (known p) f a q h
 leaves_alone (Changes after) p f a q n h = leaves_done p (after p) f a q n h
 leaves_alone Resets p f a q n h = leaves_done p (reset p) f a q (leaves_ending p (reset p) refl n) h
 leaves_alone (RefusesWith error) p f a q n h = leaves_refused p error f a q h

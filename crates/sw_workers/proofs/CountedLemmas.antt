@@ -11,6 +11,7 @@ use Rattle.sw_base.specs.declared.error.ScpiError.{ScpiError}
 use Rattle.sw_base.specs.declared.error.ScpiError.TheVariants.{UndefinedHeader, DataCorruptOrStale, OutOfMemory, HardwareMissing}
 use Rattle.sw_base.specs.declared.error.ScpiError.TheVariants.{SettingsConflict, HardwareError}
 use Rattle.sw_lex.specs.declared.command.Command.{Command}
+use Rattle.sw_lex.specs.declared.command.SlotQuery.{SlotQuery}
 use Rattle.sw_lex.specs.declared.command.Plain.{Plain}
 use Rattle.sw_lex.specs.declared.command.Channels.{Channels}
 use Rattle.sw_trigger.specs.Settings.{SettingsSeen}
@@ -27,11 +28,12 @@ use Rattle.sw_core.specs.declared.ask.SessionAnswer.{SessionAnswer}
 use Rattle.sw_core.specs.declared.ask.SessionAnswer.TheVariants as answers
 use Rattle.sw_core.specs.declared.ask.SessionAnswer.TheVariants.{Joined, Full, Stranger, Broken, Done, Refused, Hold, Worn}
 use Rattle.sw_core.specs.Panel.{Panel, is_running}
-use Rattle.sw_core.specs.Action.{Effect, TellsText, TellsReadings, ReadsOut, SetsStatus, SetsUp, ClosesListed, OpensListed, TellsRelays, Changes}
+use Rattle.sw_core.specs.Action.{Effect, TellsText, TellsReadings, ReadsOut, SetsStatus, SetsUp, ClosesListed, OpensListed, TellsHardware, TellsSurety}
+use Rattle.sw_core.specs.Action.{Changes}
 use Rattle.sw_core.specs.Action.{Resets, reset, Triggers, RefusesWith, IsOfMacros, Initiates, Action, AtOnce, BetweenScans, AfterScan, action_of}
 use Rattle.sw_core.specs.Event.{concluded, session_concluded, last_number, next_number}
 use Rattle.sw_core.specs.Seats.{asker_of}
-use Rattle.sw_core.specs.Step.{StepClose, StepOpen, StepFlags, StepText, StepDone, StepSetting, StepRefused, StepReadings, StepAlone}
+use Rattle.sw_core.specs.Step.{StepClose, StepOpen, StepHardware, StepSurety, StepText, StepDone, StepSetting, StepRefused, StepReadings, StepAlone}
 use Rattle.sw_core.specs.Step.{Happens, StepEffect, StepHeld, StepAction, StepSnapshot, StepStart, IsServed, StepJoined, StepAdmitted}
 use Rattle.sw_core.specs.Step.{StepJoin, StepAttach, StepNew, StepSession, Returns, StepFinished, Acts, acts_unnumbered, IsWorn, IsEvent, IsUnnumbered, Step}
 use Rattle.sw_core.specs.Step.{Admission, Dropped, ShutOut, Admitted, admission}
@@ -73,6 +75,9 @@ same_command p available (Command.Plain Plain.Read) = tt
 same_command p available (Command.Query query) = tt
 same_command p available (Command.LayerQuery query layer) = tt
 same_command p available (Command.GroupQuery query group) = tt
+same_command p available (Command.SlotQuery SlotQuery.Kind slot) = tt
+same_command p available (Command.SlotQuery SlotQuery.Groups slot) = tt
+same_command p available (Command.SlotQuery SlotQuery.State slot) = tt
 same_command p available (Command.ReadOut read) = tt
 same_command p available (Command.Signal layer) = tt
 same_command p available (Command.Continuous true) = tt
@@ -101,11 +106,15 @@ same_open p chans f (Refused HardwareMissing) q h = ap (λ (x : Panel). x.events
 same_open p chans f (Refused HardwareError) q h = ap (λ (x : Panel). x.events) h.2.1
 same_open p chans f a q h = absurd h
 
-same_flags : (p : Panel) (closed : Bool) (chans : List Channel) (f : Bool) (a : SessionAnswer) (q : Panel) → StepFlags p closed chans f a q → IsSame p q
-same_flags p closed chans f (Done (Some text)) q h = ap (λ (x : Panel). x.events) h.3
-same_flags p closed chans f (Refused HardwareMissing) q h = ap (λ (x : Panel). x.events) h.2
-same_flags p closed chans f (Refused OutOfMemory) q h = ap (λ (x : Panel). x.events) h.2
-same_flags p closed chans f a q h = absurd h
+same_hardware : (p : Panel) (there : Bool) (text : List ℕ) (f : Bool) (a : SessionAnswer) (q : Panel) → StepHardware p there text f a q → IsSame p q
+same_hardware p there text f (Done (Some t)) q h = ap (λ (x : Panel). x.events) h.3
+same_hardware p there text f (Refused HardwareMissing) q h = ap (λ (x : Panel). x.events) h.2
+same_hardware p there text f (Refused OutOfMemory) q h = ap (λ (x : Panel). x.events) h.2
+same_hardware p there text f a q h = absurd h
+
+same_surety : (p : Panel) (known : Option (List ℕ)) (f : Bool) (a : SessionAnswer) (q : Panel) → StepSurety p known f a q → IsSame p q
+same_surety p known f (Done (Some t)) q h = ap (λ (x : Panel). x.events) h.2
+same_surety p known f a q h = absurd h
 
 same_text : (p : Panel) (text : List ℕ) (status : StatusSeen) (f : Bool) (a : SessionAnswer) (q : Panel) → StepText p text status f a q → IsSame p q
 same_text p text status f (Done (Some t)) q h = ap (λ (x : Panel). x.events) h.2
@@ -138,7 +147,8 @@ same_alone (SetsStatus after) p f a q n h = same_done p (record p { status = aft
 same_alone (SetsUp Fits error after) p f a q n h = same_setting p Fits error (after p.settings) f a q h
 same_alone (ClosesListed chans) p f a q n h = same_close p chans f a q h
 same_alone (OpensListed chans) p f a q n h = same_open p chans f a q h
-same_alone (TellsRelays closed chans) p f a q n h = same_flags p closed chans f a q h
+same_alone (TellsHardware there text) p f a q n h = same_hardware p (there p) (text p) f a q h
+same_alone (TellsSurety known) p f a q n h = same_surety p (known p) f a q h
 same_alone (Changes after) p f a q n h = same_done p (after p) f a q n h
 same_alone Resets p f a q n h = same_done p (reset p) f a q refl h
 same_alone (RefusesWith error) p f a q n h = same_refused p error f a q h

@@ -18,6 +18,7 @@ mod RestLemmas
 mod AbortedLemmas
 mod AskedLemmas
 mod ServingLemmas
+mod SideLemmas
 mod EachCountedLemmas
 mod CommandedLemmas
 pub mod HoldsLemmas

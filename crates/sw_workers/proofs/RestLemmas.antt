@@ -2,7 +2,7 @@
 use Rattle.std.specs.Prelude.{◌==◌, ◌&&◌, not}
 use Rattle.std.proofs.Common.{◌≡◌, ℕ, ◌-◌, ◌<◌, ◌≤◌, Bool, true, false, Option, None, Some, List, [], ◌∷◌, ◌++◌, refl, sym, ap, ◌∙◌, subst, arith}
 use Rattle.std.proofs.Common.{is_some, length, slice_set, if◌then◌else◌, inl, inr}
-use Rattle.std.proofs.lemmas.Bool.{cases_Bool, MatchBool-at_true, MatchBool-at_false}
+use Rattle.std.proofs.lemmas.Bool.{cases_Bool, and_parts, MatchBool-at_true, MatchBool-at_false}
 use Rattle.std.proofs.lemmas.List.{append_assoc, append-nil, length-map}
 use Rattle.sw_base.specs.Layout.{Channel, slot_at}
 use Rattle.sw_card.specs.Account.{Account, of_meter}
@@ -233,3 +233,11 @@ ends_on start p q f history new v w ask a held ends unasked step asked grew = el
   | inr none ↦ ends_same start p q history new (grew ∙ ap (λ (b : Bool). grown b history (entry_of v (said_at q ask a))) none)
       (same_by start p q v w ask a none asked) ends
 ]
+
+-- so too where whether it was at rest, and whether no session asks, tell whether it is so behind the ask
+pub ends_where : (start p q : Panel) (f : Bool) (history new : List HistoryEntry) (v w : Known) (ask : AskSeen) (a : AnswerSeen) (before after : Bool)
+    → IsHeld p.cage → (before ≡ true → EndsAtRest start history p) → after ≡ (before && is_unasked ask) → Step p ask f a q
+    → AsksInHistory start p v (event ask a q) w → new ≡ grown (is_event a) history (entry_of v (said_at q ask a)) → after ≡ true → EndsAtRest start new q
+ends_where start p q f history new v w ask a before after held ends is step asked grew at =
+    let both = and_parts before (is_unasked ask) (sym is ∙ at) in
+    ends_on start p q f history new v w ask a held (ends both.0) both.1 step asked grew

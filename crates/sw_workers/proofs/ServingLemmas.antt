@@ -11,7 +11,7 @@ use Rattle.sw_session.specs.declared.servers.source.Unread.TheVariants.{Paused, 
 use Rattle.sw_session.specs.ServeRead.{IsLedTo, CountsPause}
 use Rattle.sw_session.specs.Trace.{Entry}
 use Rattle.sw_session.specs.ServeEngine.{Station, ServesChannel}
-use Rattle.sw_workers.specs.Connected.{Happened, Waited, Mishaps, ConnectionSeen, beside, channel_by_header, ServesFromHeader}
+use Rattle.sw_workers.specs.Connected.{Waited, Mishaps, Unheard, ConnectionSeen, beside, channel_by_header, ServesFromHeader}
 
 -- the same run, of an input that it consumed as well
 serves-as : {D : Type 0} (passes : D → Entry → D → Type 0) (own : Channel) (turns : ℕ) (before after : Station D)
@@ -69,7 +69,7 @@ waited_on (Some o) mid new (Err Paused) w c =
 pub connects : {D : Type 0} (passes : D → Entry → D → Type 0) (m : Mishaps) (turns : ℕ) (before after : ConnectionSeen D) (rest again : Option (List ℕ))
     (pauses : Option ℕ) (result : Result (Unit {0}) ServeFault) (header : List ℕ) (own : Channel)
     → own ≡ channel_by_header header → Consumes before.input rest header
-    → (length header ≡ 16) ⊎ IsAtEnd rest ⊎ m.unread → Waited before.pauses pauses → again ≡ prepend_known header rest
+    → (length header ≡ 16) ⊎ IsAtEnd rest ⊎ m.unheard rest pauses → Waited before.pauses pauses → again ≡ prepend_known header rest
     → ((side : Option (List ℕ)) × (side' : Option (List ℕ))
     × ServesChannel passes own turns (beside side (record before { input = again; pauses = pauses })) (beside side' after) result)
     → (result ≡ Err Read → m.unread) → (result ≡ Err Write → m.unwritten ⊎ ((own ≡ Synchronous) × m.refused))
@@ -93,8 +93,8 @@ connects passes m turns before after rest again pauses result header own is begi
 }
 
 -- a write of the first channel failed, or what it left to the second one was refused
-pub failed-or-refused : {W S R : Type 0} (failed : W → W → Type 0) (writer : W) → IsLedTo failed writer ⊎ (S × R) → Happened failed ⊎ R
-failed-or-refused failed writer (inl c) = inl (writer, c)
+pub failed-or-refused : {W S R : Type 0} (failed : W → W → Type 0) (writer : W) → IsLedTo failed writer ⊎ (S × R) → IsLedTo failed writer ⊎ R
+failed-or-refused failed writer (inl c) = inl c
 failed-or-refused failed writer (inr c) = inr c.1
 
 pub of-first : {U R : Type 0} → U ⊎ R → U ⊎ ((Synchronous ≡ Synchronous) × R)

@@ -22,12 +22,13 @@ use Rattle.sw_core.specs.declared.ask.SessionAnswer.{SessionAnswer}
 use Rattle.sw_core.specs.declared.ask.SessionAnswer.TheVariants as answers
 use Rattle.sw_core.specs.declared.ask.SessionAnswer.TheVariants.{Joined, Full, Stranger, Broken, Done, Refused, Hold, Worn}
 use Rattle.sw_core.specs.Panel.{Panel, is_running}
-use Rattle.sw_core.specs.Action.{Effect, TellsText, TellsReadings, ReadsOut, SetsStatus, SetsUp, ClosesListed, OpensListed, TellsRelays, Changes}
+use Rattle.sw_core.specs.Action.{Effect, TellsText, TellsReadings, ReadsOut, SetsStatus, SetsUp, ClosesListed, OpensListed, TellsHardware, TellsSurety}
+use Rattle.sw_core.specs.Action.{Changes}
 use Rattle.sw_core.specs.Action.{Resets, reset, Triggers, RefusesWith, IsOfMacros, Initiates, Action, AtOnce, BetweenScans, AfterScan, action_of}
 use Rattle.sw_core.specs.Event.{concluded, session_concluded, last_number}
 use Rattle.sw_core.specs.Seats.{asker_of, StepSeat, StepLock}
 use Rattle.sw_core.specs.Sessions.{SessionsSeen}
-use Rattle.sw_core.specs.Step.{StepClose, StepOpen, StepFlags, StepText, StepDone, StepSetting, StepRefused, StepReadings, StepAlone}
+use Rattle.sw_core.specs.Step.{StepClose, StepOpen, StepHardware, StepSurety, StepText, StepDone, StepSetting, StepRefused, StepReadings, StepAlone}
 use Rattle.sw_core.specs.Step.{session_told, StepHappens, StepEffect, StepHeld, StepAction, StepSnapshot, StepStart, IsServed, StepJoined, StepAdmitted}
 use Rattle.sw_core.specs.Step.{StepJoin, StepAttach, StepNew, StepSession, outside_told, StepOutside, StepFinished}
 use Rattle.sw_core.specs.Step.{Acts, acts_unnumbered, IsUnnumbered, IsEvent, Step}
@@ -65,11 +66,16 @@ stays_open p chans f (Done text) q h = tt
 stays_open p chans f (Refused e) q h = tt
 stays_open p chans f a q h = absurd h
 
-stays_flags : (p : Panel) (closed : Bool) (chans : List Channel) (f : Bool) (a : SessionAnswer) (q : Panel) → StepFlags p closed chans f a q
+stays_hardware : (p : Panel) (there : Bool) (text : List ℕ) (f : Bool) (a : SessionAnswer) (q : Panel) → StepHardware p there text f a q
     → Stays (is_session_event a) p q
-stays_flags p closed chans f (Done text) q h = tt
-stays_flags p closed chans f (Refused e) q h = tt
-stays_flags p closed chans f a q h = absurd h
+stays_hardware p there text f (Done t) q h = tt
+stays_hardware p there text f (Refused e) q h = tt
+stays_hardware p there text f a q h = absurd h
+
+stays_surety : (p : Panel) (known : Option (List ℕ)) (f : Bool) (a : SessionAnswer) (q : Panel) → StepSurety p known f a q
+    → Stays (is_session_event a) p q
+stays_surety p known f (Done t) q h = tt
+stays_surety p known f a q h = absurd h
 
 stays_text : (p : Panel) (text : List ℕ) (status : StatusSeen) (f : Bool) (a : SessionAnswer) (q : Panel) → StepText p text status f a q
     → Stays (is_session_event a) p q
@@ -103,7 +109,8 @@ stays_alone (SetsStatus after) p f a q h = stays_done p (record p { status = aft
 stays_alone (SetsUp Fits error after) p f a q h = stays_setting p Fits error (after p.settings) f a q h
 stays_alone (ClosesListed chans) p f a q h = stays_close p chans f a q h
 stays_alone (OpensListed chans) p f a q h = stays_open p chans f a q h
-stays_alone (TellsRelays closed chans) p f a q h = stays_flags p closed chans f a q h
+stays_alone (TellsHardware there text) p f a q h = stays_hardware p (there p) (text p) f a q h
+stays_alone (TellsSurety known) p f a q h = stays_surety p (known p) f a q h
 stays_alone (Changes after) p f a q h = stays_done p (after p) f a q h
 stays_alone Resets p f a q h = stays_done p (reset p) f a q h
 stays_alone (RefusesWith error) p f a q h = stays_refused p error f a q h

@@ -13,29 +13,35 @@ use Rattle.sw_session.specs.ServeRead.{IsLedTo, PausesBy}
 use Rattle.sw_session.specs.Trace.{Entry}
 use Rattle.sw_session.specs.ServeEngine.{Station, ServesChannel}
 
--- such a step has been taken
-abbrev pub Happened : {A : Type 0} → (A → A → Type 0) → Type 0
-Happened step = (new : _) × IsLedTo step new
-
 -- the channel that begins so: the second one with `HS` and the kind AsyncInitialize, any other is the first one
 abbrev pub channel_by_header : List ℕ → Channel
 channel_by_header (h ∷ s ∷ kind ∷ rest) =
     if (h == 72) && (s == 83) && (kind == kind_number AsyncInitialize) then Asynchronous else Synchronous
 channel_by_header bytes = Synchronous
 
--- What can befall a connection: a read has failed; a write has failed; what was left to the session's other thread was
--- refused, since it didn't fit beside what waited.
+-- What befell a connection: in its first header a read failed, with this left to be read, and with so many reads ended
+-- by a time limit; later a read failed; a write failed; what was left to the session's other thread was refused.
 pub record Mishaps : Type 1 where
+  pub unheard : (rest : Option (List ℕ)) → (pauses : Option ℕ) → Type 0
   pub unread : Type 0
   pub unwritten : Type 0
   pub refused : Type 0
 
--- What a connection's reader, its writer, its second way to the client and what is left to the other thread tell of
--- that: the second way is written to before a read, which then fails with it.
-abbrev pub mishaps : {R W S : Type 0} → Source.Ghosts R → Sink.Ghosts W → Sink.Ghosts S → Type 0 → Mishaps
-mishaps reads writes writes_aside refused = record {
-  unread = Happened reads.failed ⊎ Happened writes_aside.failed;
-  unwritten = Happened writes.failed;
+-- a read failed that led to such a reader
+pub record Unheard {R : Type 0} (reads : Source.Ghosts R) (rest : Option (List ℕ)) (pauses : Option ℕ) : Type 0 where
+  pub reader : R
+  pub failed : IsLedTo reads.failed reader
+  pub rest_is : rest ≡ reads.remaining reader
+  pub pauses_is : pauses ≡ reads.pauses reader
+
+-- What the reader, the writer and the second way to the client tell of that, as the run leaves them: a failed read led
+-- to this reader, a failed write to this writer. The second way is written to before a read, which then fails with it.
+abbrev pub mishaps : {R W S : Type 0} → Source.Ghosts R → Sink.Ghosts W → Sink.Ghosts S → (refused : Type 0)
+    → (reader : R) → (writer : W) → (aside : S) → Mishaps
+mishaps reads writes writes_aside refused reader writer aside = record {
+  unheard = Unheard reads;
+  unread = IsLedTo reads.failed reader ⊎ IsLedTo writes_aside.failed aside;
+  unwritten = IsLedTo writes.failed writer;
   refused = refused;
 }
 
@@ -68,8 +74,8 @@ pub record ServesFromHeader {D : Type 0} (passes : D → Entry → D → Type 0)
   pub header : List ℕ
   pub rest : Option (List ℕ)
   pub begins : Consumes before.input rest header
-  pub whole : (length header ≡ 16) ⊎ IsAtEnd rest ⊎ m.unread
   pub pauses : Option ℕ
+  pub whole : (length header ≡ 16) ⊎ IsAtEnd rest ⊎ m.unheard rest pauses
   pub waited : Waited before.pauses pauses
   pub side : Option (List ℕ)
   pub side' : Option (List ℕ)

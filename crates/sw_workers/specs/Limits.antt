@@ -1,4 +1,4 @@
--- How long a thread waits, and how long a connection may stand.
+-- How long a thread waits, and how long a connection may be without its session.
 use Rattle.std.specs.Prelude.{ℕ, ◌+◌, ◌-◌, ◌/◌, ◌^◌, nat_lt, Bool, true, false, not, Option, None, Some, if◌then◌else◌}
 use Rattle.std.specs.Time.{instant_nanos}
 use Rattle.std.specs.declared.time.Instant.{Instant}
@@ -22,11 +22,11 @@ micros_between earlier later = in_64_bits ((instant_nanos later - instant_nanos 
 abbrev pub ms_between : Instant → Instant → ℕ
 ms_between earlier later = in_64_bits ((instant_nanos later - instant_nanos earlier) / 1000000)
 
--- whole milliseconds in so many microseconds, of which one that has begun counts
+-- these microseconds in whole milliseconds, rounded up
 abbrev pub whole_ms : ℕ → ℕ
 whole_ms micros = (micros + 999) / 1000
 
--- what is left of a limit where so many microseconds are left until its end: never more than it was
+-- what is left of a limit this many microseconds before its end: never more than the limit
 abbrev pub left_of : ℕ → ℕ → ℕ
 left_of limit micros = at_most limit (whole_ms micros)
 
@@ -34,16 +34,16 @@ abbrev pub slice_of : Option ℕ → ℕ
 slice_of None = most_slice
 slice_of (Some left) = at_most most_slice left
 
--- how many connections stand without a session at most
+-- how many connections may be without a session
 abbrev pub most_standing : ℕ
 most_standing = 64
 
--- how many stand where one more comes to so many: it finds no room beside the most
+-- how many there are with one more, which finds no room beside the most
 abbrev pub one_more : ℕ → Option ℕ
 one_more standing = if nat_lt standing most_standing then Some (standing + 1) else None
 
--- How long a connection may stand as it does, in milliseconds from its beginning: 10 seconds until its first header is
--- whole, a minute until its session has both connections, and then as long as it likes.
+-- How long a connection may be open, in milliseconds from its beginning: 10 seconds until its first header is whole, a
+-- minute until its session has both connections, without a limit from then on.
 abbrev pub time_for : Bool → Bool → Option ℕ
 time_for false paired = Some 10000
 time_for true false = Some 60000

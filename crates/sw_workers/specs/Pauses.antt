@@ -1,6 +1,7 @@
 -- Pauses that a timer waits out: only the latest can still be awaited.
-use Rattle.std.specs.Prelude.{◌≡◌, ◌==◌, ◌+◌, ◌*◌, ◌&&◌, ◌||◌, Bool, true, nat_lt, Option, None, Some, if◌then◌else◌}
+use Rattle.std.specs.Prelude.{◌≡◌, ◌==◌, ◌+◌, ◌*◌, ◌&&◌, ◌||◌, Bool, true, nat_lt, Option, None, Some, IfSome, if◌then◌else◌}
 use Rattle.std.specs.Time.{instant_nanos}
+use Rattle.std.specs.declared.time.Instant.{Instant}
 use Rattle.sw_cage.specs.declared.job.Ticket.{Ticket}
 use Rattle.sw_workers.specs.declared.pauses.Next.{Next}
 use Rattle.sw_workers.specs.declared.pauses.Next.TheVariants.{Begins, Ends, Over}
@@ -35,8 +36,17 @@ after_next s (Begins pause) = with_pause s pause
 after_next s (Ends ticket) = with_none s
 after_next s Over = s
 
--- Only the pause that stands ends, under its own ticket.
-abbrev pub EndsStanding : Option Pause → Next → Type 0
-EndsStanding None (Ends ticket) = ⊥
-EndsStanding (Some pause) (Ends ticket) = ticket ≡ pause.ticket
-EndsStanding stands next = Unit {0}
+-- Only the pause that stands ends, under its own ticket, once its end has come.
+abbrev pub EndsStanding : (reached : Instant → Type 0) → Option Pause → Next → Type 0
+EndsStanding reached None (Ends ticket) = ⊥
+EndsStanding reached (Some pause) (Ends ticket) = (ticket ≡ pause.ticket) × reached pause.at
+EndsStanding reached stands next = Unit {0}
+
+-- a pause that begins was received
+abbrev pub BeginsArrived : (arrived : Pause → Type 0) → Next → Type 0
+BeginsArrived arrived (Begins pause) = arrived pause
+BeginsArrived arrived next = Unit {0}
+
+-- the pause that stands was received
+abbrev pub IsOfArrived : (arrived : Pause → Type 0) → Standing → Type 0
+IsOfArrived arrived s = IfSome s.stands arrived

@@ -1,5 +1,8 @@
 -- What a wait comes to, and what a desk keeps of it.
 use Rattle.std.specs.Prelude.{◌==◌, ℕ, Bool, true, false, Option, None, Some, if◌then◌else◌}
+use Rattle.sw_core.specs.declared.ask.Sid.{Sid}
+use Rattle.sw_core.specs.declared.ask.SessionAsk.{SessionAsk}
+use Rattle.sw_core.specs.declared.ask.SessionAsk.TheVariants as Ask
 use Rattle.sw_core.specs.declared.ask.SessionAnswer.{SessionAnswer}
 use Rattle.sw_core.specs.declared.ask.SessionAnswer.TheVariants.{Hold, Joined}
 use Rattle.sw_session.specs.declared.available.Seating.{Seating}
@@ -16,12 +19,16 @@ abbrev pub outcome_of : ℕ → ℕ → Bool → Woken
 outcome_of seen turn true = Closing
 outcome_of seen turn false = if turn == seen then Unchanged else Turned
 
--- A wait without a limit is over only once the end has begun, or its client has gone.
-abbrev pub MayRest : Type 0 → Option ℕ → Rest → Type 0
-MayRest ended None Over = ended
-MayRest ended (Some ms) Over = Unit {0}
-MayRest ended limit (Again left) = Unit {0}
-MayRest ended limit Deserted = Unit {0}
+-- A wait without a limit is over by itself only once the end has begun.
+abbrev pub MayEnd : (ended : Type 0) → (limit : Option ℕ) → Type 0
+MayEnd ended None = ended
+MayEnd ended (Some ms) = Unit {0}
+
+-- A wait is over by itself, or since its client was found gone.
+abbrev pub MayRest : (ended gone : Type 0) → (limit : Option ℕ) → Rest → Type 0
+MayRest ended gone limit Over = MayEnd ended limit
+MayRest ended gone limit (Again left) = Unit {0}
+MayRest ended gone limit Deserted = gone
 
 -- what is told to be left of a limit of so many milliseconds: never more than that
 abbrev pub told_left : Option ℕ → Option Limit → Option ℕ
@@ -33,6 +40,17 @@ told_left (Some ms) (Some limit) = Some (at_most ms limit.left_ms)
 abbrev pub limit_after : Option Limit → SessionAnswer → Option Limit
 limit_after limit (Hold ask) = limit
 limit_after limit answer = None
+
+-- a session is left
+abbrev pub is_leave : SessionAsk → Bool
+is_leave (Ask.Leave sid) = true
+is_leave ask = false
+
+-- the session that is served after an answer to an ask that leaves one, or doesn't
+abbrev pub serving_after : (serves : Option Sid) → (leaves : Bool) → SessionAnswer → Option Sid
+serving_after serves leaves (Joined sid) = Some sid
+serving_after serves true answer = None
+serving_after serves false answer = serves
 
 -- the number of the session whose first channel a desk is, after an ask that is to change who has joined like this
 abbrev pub number_after : Option ℕ → Seating → SessionAnswer → Option ℕ

@@ -1,5 +1,6 @@
 -- What a desk asks, and the work that it carries out.
 use Rattle.std.specs.Prelude.{◌≡◌, ◌+◌, ◌⊎◌, ℕ, List, [], ◌∷◌, Option, None, Some}
+use Rattle.std.specs.declared.time.Instant.{Instant}
 use mathlib.Core.List.{IsPrefix}
 use Rattle.sw_core.specs.declared.ask.Sid.{Sid}
 use Rattle.sw_core.specs.declared.ask.SessionAsk.{SessionAsk}
@@ -14,10 +15,12 @@ use Rattle.sw_session.specs.declared.desk.Wake.TheVariants.{Again, Over}
 use Rattle.sw_session.specs.Trace.{Entry, Asked, Waited, Polled, Noted}
 use Rattle.sw_session.specs.CoreDesk.{TellsOfPiece, brought}
 use Rattle.sw_workers.specs.Board.{Known}
+use Rattle.sw_workers.specs.Waits.{MayEnd, is_leave, serving_after}
 use Rattle.sw_workers.specs.Entries.{last_pair, made_by}
 use Rattle.sw_workers.specs.Held.{AtDesk}
 use Rattle.sw_workers.specs.History.{pair_of, event, AsksInHistory}
 use Rattle.sw_workers.specs.Shares.{is_counted, one_if}
+use Rattle.sw_workers.specs.declared.pauses.Pause.{Pause}
 
 -- What the mainframe was asked by a desk at the panel that was behind the lock then, what was answered, and the panel
 -- after it; and what the desk's seat knew before and after.
@@ -98,20 +101,42 @@ pub record EndsPiece (start : Panel) (piece : WorkSeen) (old : AtDesk) (brings :
   pub tells : TellsOfPiece piece ask
   pub told : Brings start ask old brings new
 
--- the mainframe was told of a piece of work
-abbrev pub IsToldOfWork : Panel → MadeAsk → Type 0
-IsToldOfWork start m = (piece : WorkSeen) × TellsOfPiece piece m.event.ask × IsMade start m
+-- the mainframe was told of a piece of work that was the worker's to tell of, or that was left to be done
+pub record IsToldOfWork (start : Panel) (own : WorkSeen → Type 0) (left : Option WorkSeen) (m : MadeAsk) : Type 0
+  where
+    pub piece : WorkSeen
+    pub whose : own piece ⊎ (left ≡ Some piece)
+    pub tells : TellsOfPiece piece m.event.ask
+    pub made : IsMade start m
 
-abbrev pub AreTold : Panel → List MadeAsk → Type 0
-AreTold start [] = Unit {0}
-AreTold start (m ∷ made) = IsToldOfWork start m × AreTold start made
+-- each piece that was told was the worker's own, or came of the one told before it; at first this is left to be done
+abbrev pub AreTold : Panel → (own : WorkSeen → Type 0) → (left : Option WorkSeen) → List MadeAsk → Type 0
+AreTold start own left [] = Unit {0}
+AreTold start own left (m ∷ made) =
+    IsToldOfWork start own left m × AreTold start own (brought m.event.answer) made
 
--- what a worker's desk counts and knows: the events of what it told of work, and no others
-pub record Works (start : Panel) (old new : AtDesk) : Type 0 where
-  pub made : List MadeAsk
-  pub told : AreTold start made
-  pub counts : new.amount ≡ old.amount + events_of made
-  pub learns : Learns old.seat made new.seat
+-- what a worker's desk counts and knows: the events of what it told of such work, and no others
+pub record Works (start : Panel) (own : WorkSeen → Type 0) (left : Option WorkSeen) (old new : AtDesk) : Type 0
+  where
+    pub made : List MadeAsk
+    pub told : AreTold start own left made
+    pub counts : new.amount ≡ old.amount + events_of made
+    pub learns : Learns old.seat made new.seat
+
+-- no piece is a worker's own
+abbrev pub none_own : WorkSeen → Type 0
+none_own piece = ⊥
+
+-- a card worker's own: a measurement that it received
+abbrev pub IsReceivedJob : (received : WorkSeen → Type 0) → WorkSeen → Type 0
+IsReceivedJob received (Measures job) = received (Measures job)
+IsReceivedJob received (Pauses ticket micros) = ⊥
+
+-- a timer worker's own: a pause that it received, once its end has come
+abbrev pub IsOverPause : (arrived : Pause → Type 0) → (reached : Instant → Type 0) → WorkSeen → Type 0
+IsOverPause arrived reached (Measures job) = ⊥
+IsOverPause arrived reached (Pauses ticket micros) =
+    (pause : Pause) × arrived pause × reached pause.at × (pause.ticket ≡ ticket) × (pause.micros ≡ micros)
 
 -- a session's ask, and the work that it brought
 pub record AnswersDesk (start : Panel) (ask : SessionAsk) (answer : SessionAnswer) (old new : AtDesk) : Type 0 where
@@ -128,20 +153,41 @@ pub record ReadsStatus (start : Panel) (view : View) (old new : AtDesk) : Type 0
   pub desk : (new.seat.desk ≡ old.seat.desk) × (new.seat.mine ≡ old.seat.mine)
   pub amount : new.amount ≡ old.amount
 
--- A desk whose client has ended its connection leaves the session that it serves, if it serves one, as if it were
--- asked.
-abbrev pub LeavesUnasked : Panel → AtDesk → AtDesk → Type 0
-LeavesUnasked start old new =
-    (new ≡ old) ⊎ ((sid : Sid) × (answer : SessionAnswer) × AnswersDesk start (Ask.Leave sid) answer old new)
+-- a desk: what it counts and knows, and the session that it serves
+pub record DeskSeen : Type 0 where
+  pub part : AtDesk
+  pub serves : Option Sid
 
--- a wait that is over may be so since the client has ended its connection
-abbrev pub Rests : Panel → Wake → AtDesk → AtDesk → Type 0
-Rests start Over old new = LeavesUnasked start old new
-Rests start (Again left) old new = new ≡ old
+abbrev pub desk_seen : AtDesk → Option Sid → DeskSeen
+desk_seen part serves = record { part = part; serves = serves }
 
--- How a desk of a mainframe that opened so goes on. Only an ask counts events, and a wait that leaves the session.
-abbrev pub DeskPasses : Panel → AtDesk → Entry → AtDesk → Type 0
-DeskPasses start old (Asked ask answer) new = AnswersDesk start ask answer old new
-DeskPasses start old (Waited limit wake) new = Rests start wake old new
-DeskPasses start old (Polled sid view) new = ReadsStatus start view old new
-DeskPasses start old (Noted sid mav) new = new ≡ old
+-- the session that is served after an ask: one that it joined or attached to, until it is left
+abbrev pub serves_after : Option Sid → SessionAsk → SessionAnswer → Option Sid
+serves_after serves ask answer = serving_after serves (is_leave ask) answer
+
+-- the session that the desk serves is left, as if that were asked, and no other
+pub record LeavesServed (start : Panel) (old new : DeskSeen) : Type 0 where
+  pub sid : Sid
+  pub served : old.serves ≡ Some sid
+  pub answer : SessionAnswer
+  pub answers : AnswersDesk start (Ask.Leave sid) answer old.part new.part
+  pub serves : new.serves ≡ serves_after old.serves (Ask.Leave sid) answer
+
+-- where no session is served, none is left
+abbrev pub Deserts : Panel → DeskSeen → DeskSeen → Type 0
+Deserts start old new = ((old.serves ≡ None) × (new ≡ old)) ⊎ LeavesServed start old new
+
+-- A wait that is over by itself changes nothing; one whose client was found gone leaves the session that is served.
+abbrev pub Rests : Panel → (ended gone : Type 0) → (limit : Option ℕ) → Wake → DeskSeen → DeskSeen → Type 0
+Rests start ended gone limit Over old new = (MayEnd ended limit × (new ≡ old)) ⊎ (gone × Deserts start old new)
+Rests start ended gone limit (Again left) old new = new ≡ old
+
+-- How a desk of a mainframe that opened so goes on, where its end has begun and where a client was found gone. Only an
+-- ask counts events, and a wait that leaves the session.
+abbrev pub DeskPasses : Panel → (ended gone : Type 0) → DeskSeen → Entry → DeskSeen → Type 0
+DeskPasses start ended gone old (Asked ask answer) new =
+    AnswersDesk start ask answer old.part new.part × (new.serves ≡ serves_after old.serves ask answer)
+DeskPasses start ended gone old (Waited limit wake) new = Rests start ended gone limit wake old new
+DeskPasses start ended gone old (Polled sid view) new =
+    ReadsStatus start view old.part new.part × (new.serves ≡ old.serves)
+DeskPasses start ended gone old (Noted sid mav) new = new ≡ old

@@ -5,7 +5,7 @@ ghost use Rattle.std.specs.Prelude.{vec_capacity, OnOk, OnErr};
 ghost use Rattle.std.specs.Io.Cursor.{cursor_position, cursor_inner};
 ghost use Rattle.std.specs.Io.KnownBytes.{Consumes, IsAtEnd};
 ghost use Rattle.sw_session.specs.ServeRead.{IsLedTo};
-ghost use Rattle.sw_workers.specs.Connected.{Happened, Waited, channel_by_header};
+ghost use Rattle.sw_workers.specs.Connected.{Waited, channel_by_header};
 
 use crate::outboxes::Place;
 use std::io::{Cursor, Read};
@@ -77,8 +77,8 @@ pub struct ReadAhead<R: Source + Drop> {
 impl<R: Source + Drop> Model for ReadAhead<R> {
     ghost use Rattle.std.specs.Prelude.{◌≡◌, true, drop};
     ghost use Rattle.std.specs.Io.Cursor.{cursor_position, cursor_inner};
+    ghost use Rattle.sw_session.specs.ServeRead.{IsLedTo};
     ghost use Rattle.sw_workers.specs.Ahead.{Ahead};
-    ghost use Rattle.sw_workers.specs.Connected.{Happened};
 
     ghost Value = { Ahead R };
 
@@ -87,13 +87,13 @@ impl<R: Source + Drop> Model for ReadAhead<R> {
       reader = s.reader;
     } };
 
-    ghost invariant = { λ s. s.failed ≡ true → Happened R.failed };
+    ghost invariant = { λ s. s.failed ≡ true → IsLedTo R.failed s.reader };
 }
 
 impl<R: Source + Drop> ReadAhead<R> {
     /// These bytes come again, and then what the reader has.
     pub fn new(header: Vec<u8>, failed: bool, reader: R) -> Self
-        requires { failed ≡ true → Happened R.failed }
+        requires { failed ≡ true → IsLedTo R.failed reader }
         ensures { result ≡ record { bytes = header.items; reader = reader } }
     {
         ReadAhead {
@@ -105,14 +105,14 @@ impl<R: Source + Drop> ReadAhead<R> {
 }
 
 impl<R: Source + Drop> Source for ReadAhead<R> {
+    ghost use Rattle.sw_session.specs.ServeRead.{IsLedTo};
     ghost use Rattle.sw_workers.specs.Ahead.{left_ahead};
-    ghost use Rattle.sw_workers.specs.Connected.{Happened};
 
     ghost remaining = { λ s. left_ahead R.remaining s };
 
     ghost pauses = { λ s. R.pauses s.reader };
 
-    ghost failed = { λ _ _. Happened R.failed };
+    ghost failed = { λ _ t. IsLedTo R.failed t.reader };
 
     fn receive(&mut self, buffer: &mut [u8]) -> Result<usize, Unread> {
         if has_left(&self.header) {

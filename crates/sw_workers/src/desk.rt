@@ -5,8 +5,9 @@ ghost use Rattle.sw_core.specs.Seen.{ask_seen, answer_seen, work_seen, AskSessio
 ghost use Rattle.sw_session.specs.CoreDesk.{TellsOfPiece, piece_seen};
 ghost use Rattle.sw_session.specs.Trace.{LeavesOf};
 ghost use Rattle.sw_workers.specs.Opened.{OpensAll};
-ghost use Rattle.sw_workers.specs.Waits.{MayRest, limit_after, number_after, told_left};
-ghost use Rattle.sw_workers.specs.Work.{AsksOnce, Brings, SeesToWork, EndsPiece, LeavesUnasked, IsRested, Works};
+ghost use Rattle.sw_workers.specs.Waits.{MayRest, limit_after, number_after, is_leave, serving_after, told_left};
+ghost use Rattle.sw_workers.specs.Work.{AsksOnce, Brings, SeesToWork, EndsPiece, Deserts, desk_seen, IsRested, Works, none_own};
+ghost use Rattle.sw_workers.specs.declared.desk.Rest.TheVariants.{Deserted};
 
 use crate::gate::{Gate, Point};
 use crate::held::{DeskPart, Mainframe};
@@ -41,6 +42,8 @@ pub struct SharedDesk<
     number: Option<u8>,
     /// The limit of the wait for what is held, which goes on from wait to wait.
     limit: Option<Limit>,
+    /// The session that is served.
+    pub(crate) serves: Option<Sid>,
 }
 
 /// The number of the session whose synchronous channel a desk is, after an ask and its answer.
@@ -51,6 +54,24 @@ fn number_after(number: Option<u8>, seating: Seating, answer: &SessionAnswer) ->
         (Seating::Stays, _) => number,
         (Seating::Joins, SessionAnswer::Joined(sid)) => Some(sid.number),
         _ => None,
+    }
+}
+
+/// Whether a session is left.
+fn is_leave(ask: &SessionAsk) -> bool
+    ensures { result ≡ is_leave ask.now }
+{
+    matches!(ask, SessionAsk::Leave(_))
+}
+
+/// The session that a desk serves after an answer to an ask that leaves one, or doesn't.
+fn serving_after(serves: Option<Sid>, leaves: bool, answer: &SessionAnswer) -> Option<Sid>
+    ensures { result ≡ serving_after serves leaves answer.now }
+{
+    match answer {
+        SessionAnswer::Joined(sid) => Some(*sid),
+        _ if leaves => None,
+        _ => serves,
     }
 }
 
@@ -130,6 +151,7 @@ impl<H: Mainframe, R: Relay, M: Meter, G: Gate + Drop, W: Wait + Clock + Copy + 
             seen: 0,
             number: None,
             limit: None,
+            serves: None,
         })
     }
 
@@ -142,7 +164,7 @@ impl<H: Mainframe, R: Relay, M: Meter, G: Gate + Drop, W: Wait + Clock + Copy + 
 
     /// Carries a piece of work out, and sees to what that brings.
     pub(crate) fn work_off(&mut self, piece: Work<M>)
-        ensures { Works H.first self.old.part self.new.part }
+        ensures { Works H.first none_own (Some (piece_seen piece)) self.old.part self.new.part }
     {
         let next = self.finish(piece);
         self.carry(next);
@@ -239,7 +261,7 @@ impl<H: Mainframe, R: Relay, M: Meter, G: Gate + Drop, W: Wait + Clock + Copy + 
 
     /// Waits for so many milliseconds at most, where there is a limit. A limit that is told as it was left goes on.
     fn rest_for(&self, limit_ms: Option<u32>) -> Rest
-        ensures { MayRest H.over limit_ms result }
+        ensures { MayRest H.over H.deserted limit_ms result }
     {
         let Some(ms) = limit_ms else {
             return self.rest(None);
@@ -257,7 +279,8 @@ impl<H: Mainframe, R: Relay, M: Meter, G: Gate + Drop, W: Wait + Clock + Copy + 
     /// Waits until the mainframe's turn is another, the limit is over, or the client has ended its connection. The other
     /// thread of the session sees that it waits.
     fn rest(&self, limit: Option<Limit>) -> Rest
-        ensures { limit ≡ None → MayRest H.over None result }
+        ensures over { limit ≡ None → MayRest H.over H.deserted None result }
+        ensures gone { result ≡ Deserted → H.deserted }
     {
         self.place.note_wait(&self.rt, true);
         let rest = self.rest_on(limit);
@@ -267,7 +290,8 @@ impl<H: Mainframe, R: Relay, M: Meter, G: Gate + Drop, W: Wait + Clock + Copy + 
 
     /// Waits, and looks again and again whether the client has ended its connection.
     fn rest_on(&self, limit: Option<Limit>) -> Rest
-        ensures { limit ≡ None → MayRest H.over None result }
+        ensures over { limit ≡ None → MayRest H.over H.deserted None result }
+        ensures gone { result ≡ Deserted → H.deserted }
     {
         let rt = self.rt;
         for _ in rt.forever() {
@@ -279,7 +303,7 @@ impl<H: Mainframe, R: Relay, M: Meter, G: Gate + Drop, W: Wait + Clock + Copy + 
             match self.shared.wait(&rt, self.seen, slice_of(left)) {
                 Woken::Turned => return Rest::Again(at_present(&rt, limit)),
                 Woken::Closing => return Rest::Over,
-                Woken::Unchanged if self.place.is_deserted(&rt) => return Rest::Deserted,
+                Woken::Unchanged if self.place.is_deserted::<H, W>(&rt) => return Rest::Deserted,
                 Woken::Unchanged => {}
             }
         }
@@ -288,9 +312,9 @@ impl<H: Mainframe, R: Relay, M: Meter, G: Gate + Drop, W: Wait + Clock + Copy + 
 
     /// Leaves the session that is served, where one is.
     fn desert(&mut self)
-        ensures { LeavesUnasked H.first self.old.part self.new.part }
+        ensures { Deserts H.first (desk_seen self.old.part self.old.serves) (desk_seen self.new.part self.new.serves) }
     {
-        let Some(sid) = self.place.session(&self.rt) else {
+        let Some(sid) = self.serves else {
             return;
         };
         drop(self.ask(SessionAsk::Leave(sid)));
@@ -317,9 +341,10 @@ impl<H: Mainframe, R: Relay, M: Meter, G: Gate + Drop, W: Wait + Clock + Copy + 
 
 impl<H: Mainframe, R: Relay, M: Meter, G: Gate + Drop, W: Wait + Clock + Copy + Drop> Desk
     for SharedDesk<H, R, M, G, W> {
-    ghost use Rattle.sw_workers.specs.Work.{DeskPasses};
+    ghost use Rattle.sw_workers.specs.Work.{DeskPasses, desk_seen};
 
-    ghost passes = { λ before entry after. DeskPasses H.first before.part entry after.part };
+    ghost passes = { λ before entry after. DeskPasses H.first H.over H.deserted (desk_seen before.part before.serves)
+        entry (desk_seen after.part after.serves) };
 
     fn ask(&mut self, ask: SessionAsk) -> SessionAnswer {
         let mut answer = SessionAnswer::Stranger;
@@ -333,11 +358,14 @@ impl<H: Mainframe, R: Relay, M: Meter, G: Gate + Drop, W: Wait + Clock + Copy + 
             await_served(&self.rt, &*self.place);
         }
         let seating = seating_of(&ask);
+        let serves = self.serves;
+        let leaves = is_leave(&ask);
         let mut work = None;
         self.act_session(seating, ask, answer, &mut work);
         self.place.follow(&self.rt, seating, answer);
         self.carry(work);
         self.limit = limit_after(self.limit, answer);
+        self.serves = serving_after(serves, leaves, answer);
     }
 
     fn wait(&mut self, limit_ms: Option<u32>) -> Wake {

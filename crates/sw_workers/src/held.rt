@@ -21,6 +21,7 @@ ghost use Rattle.sw_workers.specs.Work.{AsksOnce};
 
 use crate::board::StatusBoard;
 use crate::laws::whoever_may_go_on_is_woken;
+use crate::line::Hearing;
 use crate::note::{Note, kind, session_kind};
 use crate::outboxes::Outbox;
 use crate::recorded::{Recorded, Recording};
@@ -28,7 +29,7 @@ use crate::seat::StatusSeat;
 use crate::slots::SeatSlots;
 use crate::telling::{is_event, is_session_event};
 use crate::waking::{Concern, concern_of, session_concern, session_wakes, turn_after, wakes};
-use crate::work_channels::Carrier;
+use crate::work_channels::{Carrier, Receiving};
 use circular_buffer::HeapCircularBuffer;
 use std::alloc::{AllocError, Global};
 use std::marker::{Brand, Model};
@@ -54,8 +55,8 @@ impl Lasting for Brand {
 }
 
 /// Which mainframe it is: its ledger, its board, the panel that it opened with, what its sessions' threads leave to
-/// each other, the work that is sent, and its end.
-pub trait Mainframe: Ledger + Recording + Outbox + Carrier + Lasting {}
+/// each other, the work that is sent and received, its clients' lines, and its end.
+pub trait Mainframe: Ledger + Recording + Outbox + Carrier + Receiving + Hearing + Lasting {}
 
 impl Mainframe for Brand {}
 

@@ -16,10 +16,12 @@
 //! in one history of all desks, which has the desk's own events, each once, in their order, and no others of it; a
 //! status that it reads is that at some place of the history, not before any that it had seen. Its share counts the
 //! event of each ask, and those of the work that it carried out because it couldn't be sent; none of its work is
-//! dropped, and a pause that it carries out is waited out (`SeesToWork`). What is held of a session's asks is held on
-//! after any ask that takes no other turn (`Held::act`), by which those who wait are woken. Workers give their desks
-//! back when they end, and `close_down`, which is handed every desk, tells the number of events and gives the cards by
-//! slot, each as it stood there at the end of the history, but with nothing closed.
+//! dropped, and a pause that it carries out is waited out (`SeesToWork`). Which session it serves follows from its own
+//! asks; a wait leaves that session, and no other, only where its client was found gone (`Rests`). What is held of a
+//! session's asks is held on after any ask that takes no other turn (`Held::act`), by which those who wait are woken.
+//! Workers tell only of work that they received, and of what that brings (`Works`). They give their desks back when
+//! they end, and `close_down`, which is handed every desk, tells the number of events and gives the cards by slot, each
+//! as it stood there at the end of the history, but with nothing closed.
 //!
 //! `run_session` serves one connection of a HiSLIP session by such a desk, as the channel that its first header tells:
 //! what is asked and written for what is read is what `serve_sync` and `serve_async` promise (`RunsSession`). What the

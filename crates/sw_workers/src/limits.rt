@@ -1,5 +1,5 @@
 //! What is left of a wait's limit, for how long a thread waits before it looks whether its client is still there, and
-//! for how long a connection may stand without its session.
+//! for how long a connection may be without its session.
 
 ghost use Rattle.std.specs.Prelude.{◌≡◌, ◌≤◌};
 ghost use Rattle.sw_workers.specs.Limits.{left_of, slice_of, time_for, is_spent, micros_between, ms_between};
@@ -15,8 +15,8 @@ const HEADER_MS: u64 = 10_000;
 /// Within how many milliseconds of a connection's beginning its session has to have both connections.
 const PAIR_MS: u64 = 60_000;
 
-/// How long a connection may stand, in milliseconds from its beginning, if there is a limit: it tells whether its first
-/// header is whole, and whether its session has both connections.
+/// How long a connection may be open, in milliseconds from its beginning, if there is a limit. `is_heard`: its first
+/// header is whole; `is_paired`: its session has both connections.
 fn time_for(is_heard: bool, is_paired: bool) -> Option<u64>
     ensures { result ≡ time_for is_heard is_paired }
 {
@@ -27,7 +27,7 @@ fn time_for(is_heard: bool, is_paired: bool) -> Option<u64>
     }
 }
 
-/// Whether a connection that stands like this has stood for too long after so many milliseconds.
+/// Whether such a connection is overdue `stood_ms` milliseconds after its beginning.
 pub fn is_overdue(is_heard: bool, is_paired: bool, stood_ms: u64) -> bool
     ensures { result ≡ is_spent (time_for is_heard is_paired) stood_ms }
 {
@@ -37,8 +37,8 @@ pub fn is_overdue(is_heard: bool, is_paired: bool, stood_ms: u64) -> bool
     }
 }
 
-/// What is left of a limit where so many microseconds are left until its end: whole milliseconds, of which one that has
-/// begun to run out counts.
+/// What is left of a limit `micros` microseconds before its end, in whole milliseconds, rounded up, never more than the
+/// limit.
 pub fn left_of(limit_ms: u32, micros: u64) -> u32
     ensures { result ≡ left_of limit_ms micros }
 {
@@ -49,7 +49,7 @@ pub fn left_of(limit_ms: u32, micros: u64) -> u32
     }
 }
 
-/// For how many milliseconds a thread waits before it looks, where so many are left.
+/// For how many milliseconds a thread waits before it looks again, where `left_ms` are left.
 pub fn slice_of(left_ms: Option<u32>) -> u32
     ensures { result ≡ slice_of left_ms }
 {
@@ -75,7 +75,7 @@ fn micros_between(earlier: Instant, later: Instant) -> u64
     u64::try_from(duration.as_micros()).unwrap_or(u64::MAX)
 }
 
-/// When a limit is over, and what was left of it when it was told last.
+/// When a limit is over, and what was left of it at the last look.
 #[derive(Clone, Copy, Debug)]
 pub struct Limit {
     at: Instant,
@@ -83,7 +83,7 @@ pub struct Limit {
 }
 
 impl Limit {
-    /// A limit of so many milliseconds from now on. None where the clock can't be read.
+    /// A limit of `limit_ms` milliseconds from now on. None where the clock can't be read.
     pub fn new<C: Clock>(rt: &C, limit_ms: u32) -> Option<Limit> {
         let now = Instant::now(rt).ok()?;
         let at = now.checked_add(Duration::from_millis(limit_ms as u64))?;
@@ -93,14 +93,14 @@ impl Limit {
         })
     }
 
-    /// What was left of it when it was told last, in milliseconds.
+    /// What was left of it at the last look, in milliseconds.
     pub fn left_ms(&self) -> u32
         ensures { result ≡ self.now.left_ms }
     {
         self.left_ms
     }
 
-    /// The same now.
+    /// The same limit, looked at now.
     pub fn at_present<C: Clock>(&self, rt: &C) -> Limit
         ensures { result.left_ms ≤ self.now.left_ms }
     {

@@ -5,6 +5,7 @@ use libc::net::{POLLIN, POLLRDHUP, poll};
 use libc::types::pollfd;
 use std::alloc::{AllocError, Global};
 use std::io::{self, Read, Write};
+use std::marker::Brand;
 use std::net::{Shutdown, TcpStream};
 use std::os::fd::AsRawFd;
 use std::sync::Arc;
@@ -132,6 +133,26 @@ impl Line {
     /// Ends the connection: a thread that reads from it or writes to it goes on, and what was written is sent.
     pub fn close(&self) {
         let _ = self.wire.stream.shutdown(Shutdown::Both);
+    }
+}
+
+/// Which mainframe it is, to the lines of its clients: that a client has gone is known only from the look that found it.
+pub trait Hearing {
+    ghost use Rattle.std.specs.Prelude.{◌≡◌, true};
+
+    /// A client was found to have ended its connection.
+    ghost deserted: { Type 0 };
+
+    /// Whether the client has ended the connection.
+    fn has_ended(line: &Line) -> bool
+        ensures { result ≡ true → deserted };
+}
+
+impl Hearing for Brand {
+    ghost deserted = { Unit {0} };
+
+    fn has_ended(line: &Line) -> bool {
+        line.has_ended()
     }
 }
 

@@ -1,11 +1,11 @@
 //! What one thread of a session leaves to the other: for each session number a slot under a lock of its own.
 
-ghost use Rattle.std.specs.Prelude.{◌≡◌, true, [], None, IfSome, IfNone, OnOk, OnErr, vec_len};
-ghost use Rattle.sw_workers.specs.Outboxes.{opened, appended, emptied, told_to, has_room};
+ghost use Rattle.std.specs.Prelude.{◌≡◌, true, [], None, IfSome, IfNone, OnErr, vec_len};
+ghost use Rattle.sw_workers.specs.Outboxes.{opened, emptied, told_to, AsOf, Leaves};
 
 use crate::ends::Ends;
 use crate::limits::{is_overdue, ms_between};
-use crate::line::Line;
+use crate::line::{Hearing, Line};
 use crate::porch::Porch;
 use crate::slots::place_of;
 use crossbeam_utils::CachePadded;
@@ -21,27 +21,40 @@ use sw_session::Seating;
 /// How many bytes wait at most for a session's other thread; one whose client doesn't read them is left.
 const SIDE_BYTES: usize = 65_536;
 
-/// Which mainframe it is, to what its sessions' threads leave to each other.
+/// Why bytes are not left to a session's other thread.
+#[derive(Clone, Copy, Debug, PartialEq, Eq)]
+pub enum Refused {
+    /// They are too many beside those that wait.
+    Full,
+    /// There is no memory for them.
+    NoMemory,
+}
+
+/// Which mainframe it is, to what its sessions' threads leave to each other: that bytes were refused is known only from
+/// the call here that was to leave them.
 pub trait Outbox {
-    ghost use Rattle.std.specs.Prelude.{length};
-    ghost use Rattle.sw_workers.specs.Outboxes.{IsFull};
+    ghost use Rattle.std.specs.Prelude.{OnErr};
+    ghost use Rattle.sw_workers.specs.Outboxes.{Leaves};
 
     /// Bytes that were left to a session's other thread were refused.
     ghost refused: { Type 0 };
 
-    /// They are, where they don't fit beside those that wait, in what may wait or in the room that there is for them.
-    fn refuse(waiting: &[u8], room: usize, bytes: &[u8])
-        requires { IsFull (length waiting.now) room (length bytes.now) }
-        ensures { refused };
+    /// Leaves bytes in a slot to this session, all of them or none.
+    fn append(waiting: &mut Waiting, joined: u64, bytes: &[u8]) -> Result<(), Refused>
+        ensures leaves { Leaves waiting.old joined bytes.now result waiting.new }
+        ensures refused { OnErr result refused };
 }
 
 impl Outbox for Brand {
-    ghost use Rattle.std.specs.Prelude.{ℕ};
-    ghost use Rattle.sw_workers.specs.Outboxes.{IsFull};
+    ghost use Rattle.std.specs.Prelude.{ℕ, List};
+    ghost use Rattle.sw_workers.specs.Outboxes.{InSlot, Refuses};
+    ghost use Rattle.sw_workers.specs.declared.outboxes.Refused.{Refused};
 
-    ghost refused = { (waiting : ℕ) × (room : ℕ) × (more : ℕ) × IsFull waiting room more };
+    ghost refused = { (slot : InSlot) × (joined : ℕ) × (bytes : List ℕ) × (why : Refused) × Refuses slot joined bytes why };
 
-    fn refuse(_waiting: &[u8], _room: usize, _bytes: &[u8]) {}
+    fn append(waiting: &mut Waiting, joined: u64, bytes: &[u8]) -> Result<(), Refused> {
+        waiting.append(joined, bytes)
+    }
 }
 
 /// The bytes that wait in a slot, and whose they are.
@@ -53,17 +66,18 @@ pub struct Waiting {
 }
 
 impl Model for Waiting {
+    ghost use Rattle.std.specs.Vec.{vec_capacity};
     ghost use Rattle.sw_workers.specs.Outboxes.{InSlot};
 
     ghost Value = { InSlot };
 
-    ghost view = { λ w. record { joined = w.joined; bytes = w.bytes.items } };
+    ghost view = { λ w. record { joined = w.joined; bytes = w.bytes.items; room = vec_capacity w.bytes } };
 }
 
 impl Waiting {
     /// Nothing waits, and no session has the slot yet.
-    pub fn new(alloc: Global) -> Self
-        ensures { result ≡ record { joined = None; bytes = [] } }
+    fn new(alloc: Global) -> Self
+        ensures { (result.joined ≡ None) × (result.bytes ≡ []) }
     {
         Waiting {
             joined: None,
@@ -73,7 +87,7 @@ impl Waiting {
 
     /// Gives the slot to a session, and empties it, unless this session or a later one has it.
     pub fn open(&mut self, joined: u64)
-        ensures { self.new ≡ opened self.old joined }
+        ensures { AsOf (opened self.old joined) self.new }
     {
         if let Some(last) = self.joined {
             if last >= joined {
@@ -84,34 +98,28 @@ impl Waiting {
         self.bytes.clear();
     }
 
-    /// Appends what is left to a session, where no more than `SIDE_BYTES` wait then. Nothing comes of it where the slot
-    /// isn't that session's. What doesn't fit, or finds no memory, is refused.
-    pub fn append<H: Outbox>(&mut self, joined: u64, bytes: &[u8]) -> Result<(), AllocError>
-        ensures ok { OnOk result (self.new ≡ appended self.old joined bytes.now) }
-        ensures room { OnOk result (has_room self.old joined bytes.now ≡ true) }
-        ensures err { OnErr result (self.new ≡ self.old) }
-        ensures refused { OnErr result H.refused }
+    /// Appends what is left to a session, all or none: refused is what would be more than `SIDE_BYTES` with what waits,
+    /// and what finds no memory where the room has to grow. Nothing comes of it where the slot isn't that session's.
+    pub fn append(&mut self, joined: u64, bytes: &[u8]) -> Result<(), Refused>
+        ensures { Leaves self.old joined bytes.now result self.new }
     {
         if self.joined != Some(joined) {
             return Ok(());
         }
-        let room = self.bytes.capacity();
         if self.bytes.len().saturating_add(bytes.len()) > SIDE_BYTES {
-            H::refuse(self.bytes.as_slice(), room, bytes);
-            return Err(AllocError);
+            return Err(Refused::Full);
         }
-        let left = self.bytes.extend_from_slice(bytes);
-        if left.is_err() {
-            H::refuse(self.bytes.as_slice(), room, bytes);
+        match self.bytes.extend_from_slice(bytes) {
+            Ok(()) => Ok(()),
+            Err(_) => Err(Refused::NoMemory),
         }
-        left
     }
 
     /// Takes all that waits for a session, if anything does.
     pub fn take(&mut self, alloc: Global, joined: u64) -> Option<Vec<u8>>
         ensures some { IfSome result (λ bytes. bytes.items ≡ told_to self.old joined) }
         ensures none { IfNone result (told_to self.old joined ≡ []) }
-        ensures rest { self.new ≡ emptied self.old joined }
+        ensures rest { AsOf (emptied self.old joined) self.new }
     {
         if self.joined != Some(joined) || self.bytes.is_empty() {
             return None;
@@ -173,16 +181,14 @@ impl Outboxes {
     }
 
     /// Leaves bytes to a session, all of them or, where there is no room or no memory, none.
-    pub fn append<H: Outbox, W: Wait>(
-        &self,
-        rt: &W,
-        sid: Sid,
-        bytes: &[u8],
-    ) -> Result<(), AllocError>
+    pub fn append<H: Outbox, W: Wait>(&self, rt: &W, sid: Sid, bytes: &[u8]) -> Result<(), Refused>
         ensures { OnErr result H.refused }
     {
         match self.slot(sid) {
-            Some(slot) => slot.waiting.lock(rt).append::<H>(sid.joined, bytes),
+            Some(slot) => {
+                let mut waiting = slot.waiting.lock(rt);
+                H::append(&mut waiting, sid.joined, bytes)
+            }
             None => Ok(()),
         }
     }
@@ -368,9 +374,11 @@ impl Place {
     }
 
     /// Whether the client has ended the line.
-    pub fn is_deserted<W: Wait>(&self, rt: &W) -> bool {
+    pub fn is_deserted<H: Hearing, W: Wait>(&self, rt: &W) -> bool
+        ensures { result ≡ true → H.deserted }
+    {
         match &self.served.lock(rt).line {
-            Some(line) => line.has_ended(),
+            Some(line) => H::has_ended(line),
             None => false,
         }
     }
@@ -389,7 +397,7 @@ impl Place {
     }
 
     /// Leaves bytes to the session's other thread, all of them or, where there is no room or no memory, none.
-    pub fn append<H: Outbox, W: Wait>(&self, rt: &W, bytes: &[u8]) -> Result<(), AllocError>
+    pub fn append<H: Outbox, W: Wait>(&self, rt: &W, bytes: &[u8]) -> Result<(), Refused>
         ensures { OnErr result H.refused }
     {
         match self.session(rt) {

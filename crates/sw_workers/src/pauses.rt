@@ -1,7 +1,7 @@
 //! Pauses that a timer waits out. A scan awaits one pause at a time, and a mainframe runs one scan, so only the latest
 //! pause can still be awaited.
 
-ghost use Rattle.std.specs.Prelude.{◌≡◌, ◌+◌, ◌*◌, IfSome, IfNone};
+ghost use Rattle.std.specs.Prelude.{◌≡◌, ◌+◌, ◌*◌, None, IfSome, IfNone};
 ghost use Rattle.std.specs.Time.{instant_nanos, FitsClock};
 ghost use Rattle.sw_workers.specs.Pauses.{IsPause, is_earlier, is_latest, with_pause, with_none, after_next};
 
@@ -72,7 +72,9 @@ pub struct Standing {
 
 impl Standing {
     /// No pause came yet.
-    pub fn new() -> Standing {
+    pub fn new() -> Standing
+        ensures { result ≡ record { latest = None; stands = None } }
+    {
         Standing {
             latest: None,
             stands: None,

@@ -1,4 +1,4 @@
-//! How many connections stand without a session.
+//! How many connections are without a session.
 
 ghost use Rattle.std.specs.Prelude.{◌≡◌};
 ghost use Rattle.sw_workers.specs.Limits.{one_more};
@@ -6,10 +6,10 @@ ghost use Rattle.sw_workers.specs.Limits.{one_more};
 use std::sync::atomic::{AtomicBool, Ordering};
 use std::sync::{Mutex, Wait};
 
-/// How many connections stand without a session at most; a further one is closed at once.
+/// How many connections may be without a session; a further one is closed at once.
 const MOST_STANDING: u32 = 64;
 
-/// How many stand where one more comes to so many. None where there is no room for it.
+/// How many there are with one more. None where there is no room for it.
 fn one_more(standing: u32) -> Option<u32>
     ensures { result ≡ one_more standing }
 {
@@ -20,7 +20,7 @@ fn one_more(standing: u32) -> Option<u32>
     }
 }
 
-/// The connections that stand without a session, under a lock of their own.
+/// The number of connections without a session, under a lock of its own.
 #[derive(Drop)]
 pub struct Porch {
     standing: Mutex<u32>,
@@ -28,7 +28,7 @@ pub struct Porch {
 }
 
 impl Porch {
-    /// None stands there.
+    /// One that counts no connection.
     pub fn new() -> Self {
         Porch {
             standing: Mutex::new(0),
@@ -36,7 +36,7 @@ impl Porch {
         }
     }
 
-    /// No more come, and those that stand here are to end.
+    /// From now on it admits none, and those that it counts are to end.
     pub fn close(&self) {
         self.is_closed.store(true, Ordering::SeqCst);
     }
@@ -46,7 +46,7 @@ impl Porch {
         self.is_closed.load(Ordering::SeqCst)
     }
 
-    /// One more comes, where there is room for it.
+    /// Counts one more connection, where there is room for it.
     pub fn enter<W: Wait>(&self, rt: &W) -> bool {
         if self.is_closed() {
             return false;
@@ -61,7 +61,7 @@ impl Porch {
         }
     }
 
-    /// One that entered has a session, or has ended.
+    /// Counts one connection less, which has a session now, or has ended.
     pub fn leave<W: Wait>(&self, rt: &W) {
         let mut guard = self.standing.lock(rt);
         *guard = (*guard).saturating_sub(1);

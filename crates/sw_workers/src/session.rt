@@ -6,9 +6,9 @@ ghost use Rattle.sw_session.specs.Talk.{turns};
 ghost use Rattle.sw_session.specs.ServeRead.{IsLedTo};
 ghost use Rattle.sw_session.specs.ServeEngine.{ServesChannel};
 ghost use Rattle.sw_workers.specs.Ahead.{left_ahead};
-ghost use Rattle.sw_workers.specs.Connected.{Happened, Waited, mishaps, connection_seen, beside};
+ghost use Rattle.sw_workers.specs.Connected.{Waited, mishaps, connection_seen, beside};
 ghost use Rattle.sw_workers.specs.Connected.{ServesFromHeader, RunsSession};
-ghost use Rattle.sw_workers.specs.Work.{DeskPasses};
+ghost use Rattle.sw_workers.specs.Work.{DeskPasses, desk_seen};
 
 use crate::ahead::{HEADER, ReadAhead, channel_of, read_header};
 use crate::connection::Connection;
@@ -33,12 +33,14 @@ const LIMIT_MS: u32 = 100;
 
 /// How a connection was served.
 #[derive(Drop)]
-pub struct Ended<D: Drop, R: Source + Drop, O: Drop> {
+pub struct Ended<D: Drop, R: Source + Drop, O: Drop, A: Drop> {
     /// The desk, whose session was left.
     pub desk: D,
     /// What was not read.
     pub reader: ReadAhead<R>,
     pub writer: O,
+    /// The second way to the client.
+    pub aside: A,
     pub result: Result<(), ServeFault>,
 }
 
@@ -127,30 +129,31 @@ pub fn run_session_for<
     desk: SharedDesk<H, R, M, G, W>,
     alloc: Global,
     turns: u64,
-) -> Ended<SharedDesk<H, R, M, G, W>, C::In, C::Out>
-    ensures { RunsSession (λ before entry after. DeskPasses H.first before.part entry after.part)
-        (mishaps C.In.Source C.Out.Sink C.Aside.Sink H.refused) turns
+) -> Ended<SharedDesk<H, R, M, G, W>, C::In, C::Out, C::Aside>
+    ensures { RunsSession (λ before entry after. DeskPasses H.first H.over H.deserted
+        (desk_seen before.part before.serves) entry (desk_seen after.part after.serves))
+        (mishaps C.In.Source C.Out.Sink C.Aside.Sink H.refused result.reader.reader result.writer result.aside) turns
         (connection_seen desk (C.input connection) (C.pauses connection) (C.output connection))
         (connection_seen result.desk (left_ahead C.In.remaining result.reader) (C.In.pauses result.reader.reader)
         (C.Out.contents result.writer)) result.result }
 {
     let line = connection.line();
     let (reader, writer, aside) = connection.into_parts();
-    let rt = desk.rt;
-    let Ok(place) = Arc::try_clone(&desk.place) else {
-        return unbegun(alloc, reader, writer, desk);
-    };
-    let Ok(header) = Vec::with_capacity(alloc, HEADER) else {
-        return unbegun(alloc, reader, writer, desk);
-    };
-    if !place.begin(&rt, line) {
-        return unbegun(alloc, reader, writer, desk);
-    }
     let wire = Parts {
         reader,
         writer,
         aside,
     };
+    let rt = desk.rt;
+    let Ok(place) = Arc::try_clone(&desk.place) else {
+        return unbegun(alloc, wire, desk);
+    };
+    let Ok(header) = Vec::with_capacity(alloc, HEADER) else {
+        return unbegun(alloc, wire, desk);
+    };
+    if !place.begin(&rt, line) {
+        return unbegun(alloc, wire, desk);
+    }
     let ended = serve_parts::<H, C, _, W>(rt, alloc, header, wire, desk, &*place, turns);
     ended.desk.place.finish(&rt);
     ended
@@ -168,35 +171,15 @@ pub fn run_session<
     connection: C,
     desk: SharedDesk<H, R, M, G, W>,
     alloc: Global,
-) -> Ended<SharedDesk<H, R, M, G, W>, C::In, C::Out>
-    ensures { RunsSession (λ before entry after. DeskPasses H.first before.part entry after.part)
-        (mishaps C.In.Source C.Out.Sink C.Aside.Sink H.refused) turns
+) -> Ended<SharedDesk<H, R, M, G, W>, C::In, C::Out, C::Aside>
+    ensures { RunsSession (λ before entry after. DeskPasses H.first H.over H.deserted
+        (desk_seen before.part before.serves) entry (desk_seen after.part after.serves))
+        (mishaps C.In.Source C.Out.Sink C.Aside.Sink H.refused result.reader.reader result.writer result.aside) turns
         (connection_seen desk (C.input connection) (C.pauses connection) (C.output connection))
         (connection_seen result.desk (left_ahead C.In.remaining result.reader) (C.In.pauses result.reader.reader)
         (C.Out.contents result.writer)) result.result }
 {
     run_session_for(connection, desk, alloc, TURNS)
-}
-
-/// What is left where there was no memory to begin, or no room for one more connection.
-fn unbegun<R: Source + Drop, O: Drop, D: Drop>(
-    alloc: Global,
-    reader: R,
-    writer: O,
-    desk: D,
-) -> Ended<D, R, O>
-    ensures desk { result.desk ≡ desk }
-    ensures reader { left_ahead R.remaining result.reader ≡ R.remaining reader }
-    ensures pauses { R.pauses result.reader.reader ≡ R.pauses reader }
-    ensures writer { result.writer ≡ writer }
-    ensures result { result.result ≡ Err ServeFault.NoMemory }
-{
-    Ended {
-        desk,
-        reader: ReadAhead::new(Vec::new(alloc), false, reader),
-        writer,
-        result: Err(ServeFault::NoMemory),
-    }
 }
 
 /// The parts of a connection.
@@ -205,6 +188,32 @@ struct Parts<I: Drop, O: Drop, A: Drop> {
     reader: I,
     writer: O,
     aside: A,
+}
+
+/// What is left where there was no memory to begin, or no room for one more connection.
+fn unbegun<R: Source + Drop, O: Drop, A: Drop, D: Drop>(
+    alloc: Global,
+    wire: Parts<R, O, A>,
+    desk: D,
+) -> Ended<D, R, O, A>
+    ensures desk { result.desk ≡ desk }
+    ensures reader { left_ahead R.remaining result.reader ≡ R.remaining wire.reader }
+    ensures pauses { R.pauses result.reader.reader ≡ R.pauses wire.reader }
+    ensures writer { result.writer ≡ wire.writer }
+    ensures result { result.result ≡ Err ServeFault.NoMemory }
+{
+    let Parts {
+        reader,
+        writer,
+        aside,
+    } = wire;
+    Ended {
+        desk,
+        reader: ReadAhead::new(Vec::new(alloc), false, reader),
+        writer,
+        aside,
+        result: Err(ServeFault::NoMemory),
+    }
 }
 
 /// Limits each read, and reads until the first header is whole, or the input ends or fails.
@@ -235,9 +244,10 @@ fn serve_parts<H: Mainframe, C: Connection, D: Desk + Drop, W: Wait + Clock + Co
     desk: D,
     place: &Place,
     turns: u64,
-) -> Ended<D, C::In, C::Out>
+) -> Ended<D, C::In, C::Out, C::Aside>
     requires { (header.items ≡ []) × (16 ≤ vec_capacity header) }
-    ensures { ServesFromHeader D.passes (mishaps C.In.Source C.Out.Sink C.Aside.Sink H.refused) turns
+    ensures { ServesFromHeader D.passes
+        (mishaps C.In.Source C.Out.Sink C.Aside.Sink H.refused result.reader.reader result.writer result.aside) turns
         (connection_seen desk (C.In.remaining wire.reader) (C.In.pauses wire.reader) (C.Out.contents wire.writer))
         (connection_seen result.desk (left_ahead C.In.remaining result.reader) (C.In.pauses result.reader.reader)
         (C.Out.contents result.writer)) result.result }
@@ -250,26 +260,20 @@ fn serve_parts<H: Mainframe, C: Connection, D: Desk + Drop, W: Wait + Clock + Co
     let mut header = header;
     let failed = hear_header::<C, W>(&rt, place, &mut reader, &mut header).is_err();
     let channel = channel_of(header.as_slice());
-    let reader = Watched {
-        reader: ReadAhead::new(header, failed, reader),
-        place,
-        rt,
-        channel,
-        is_paired: false,
+    let wire = Parts {
+        reader: Watched {
+            reader: ReadAhead::new(header, failed, reader),
+            place,
+            rt,
+            channel,
+            is_paired: false,
+        },
+        writer,
+        aside,
     };
     match channel {
-        Channel::Synchronous => {
-            serve_first::<H, _, _, _, W>(rt, alloc, reader, writer, desk, turns)
-        }
-        Channel::Asynchronous => {
-            let source = Forwarding {
-                reader,
-                aside,
-                place,
-                rt,
-            };
-            serve_second(alloc, source, writer, desk, turns)
-        }
+        Channel::Synchronous => serve_first::<H, _, _, _, _, W>(rt, alloc, wire, desk, turns),
+        Channel::Asynchronous => serve_second(rt, alloc, wire, desk, turns),
     }
 }
 
@@ -278,28 +282,31 @@ fn serve_first<
     H: Mainframe,
     R: Source + Drop,
     O: Sink + Drop,
+    A: Sink + Drop,
     D: Desk + Drop,
     W: Wait + Clock + Drop,
 >(
     rt: W,
     alloc: Global,
-    source: Watched<'_, ReadAhead<R>, W>,
-    writer: O,
+    wire: Parts<Watched<'_, ReadAhead<R>, W>, O, A>,
     desk: D,
     turns: u64,
-) -> Ended<D, R, O>
+) -> Ended<D, R, O, A>
     ensures serves { (side : Option (List ℕ)) × (side' : Option (List ℕ))
         × ServesChannel D.passes Channel.Synchronous turns
-        (beside side (connection_seen desk (left_ahead R.remaining source.entry.reader) (R.pauses source.entry.reader.reader)
-        (O.contents writer)))
+        (beside side (connection_seen desk (left_ahead R.remaining wire.entry.reader.reader)
+        (R.pauses wire.entry.reader.reader.reader) (O.contents wire.entry.writer)))
         (beside side' (connection_seen result.desk (left_ahead R.remaining result.reader)
         (R.pauses result.reader.reader) (O.contents result.writer)))
         result.result }
-    ensures read { result.result ≡ Err ServeFault.Read → Happened R.failed }
-    ensures write { result.result ≡ Err ServeFault.Write → Happened O.failed ⊎ H.refused }
+    ensures read { result.result ≡ Err ServeFault.Read → IsLedTo R.failed result.reader.reader }
+    ensures write { result.result ≡ Err ServeFault.Write → IsLedTo O.failed result.writer ⊎ H.refused }
 {
-    let mut source = source;
-    let mut writer = writer;
+    let Parts {
+        reader: mut source,
+        mut writer,
+        aside,
+    } = wire;
     let mut desk = desk;
     let mut side = SideWriter {
         place: source.place,
@@ -312,6 +319,7 @@ fn serve_first<
         desk,
         reader,
         writer,
+        aside,
         result,
     }
 }
@@ -324,30 +332,41 @@ fn serve_second<
     D: Desk + Drop,
     W: Wait + Clock + Drop,
 >(
+    rt: W,
     alloc: Global,
-    source: Forwarding<'_, Watched<'_, ReadAhead<R>, W>, A, W>,
-    writer: O,
+    wire: Parts<Watched<'_, ReadAhead<R>, W>, O, A>,
     desk: D,
     turns: u64,
-) -> Ended<D, R, O>
+) -> Ended<D, R, O, A>
     ensures serves { (side : Option (List ℕ)) × (side' : Option (List ℕ))
         × ServesChannel D.passes Channel.Asynchronous turns
-        (beside side (connection_seen desk (left_ahead R.remaining source.entry.reader.reader) (R.pauses source.entry.reader.reader.reader)
-        (O.contents writer)))
+        (beside side (connection_seen desk (left_ahead R.remaining wire.entry.reader.reader)
+        (R.pauses wire.entry.reader.reader.reader) (O.contents wire.entry.writer)))
         (beside side' (connection_seen result.desk (left_ahead R.remaining result.reader)
         (R.pauses result.reader.reader) (O.contents result.writer)))
         result.result }
-    ensures read { result.result ≡ Err ServeFault.Read → Happened R.failed ⊎ Happened A.failed }
-    ensures write { result.result ≡ Err ServeFault.Write → Happened O.failed }
+    ensures read { result.result ≡ Err ServeFault.Read
+        → IsLedTo R.failed result.reader.reader ⊎ IsLedTo A.failed result.aside }
+    ensures write { result.result ≡ Err ServeFault.Write → IsLedTo O.failed result.writer }
 {
-    let mut source = source;
-    let mut writer = writer;
+    let Parts {
+        reader,
+        mut writer,
+        aside,
+    } = wire;
+    let place = reader.place;
+    let mut source = Forwarding {
+        reader,
+        aside,
+        place,
+        rt,
+    };
     let mut desk = desk;
     let mut side = Nowhere;
     let result = serve_async(alloc, &mut source, &mut writer, &mut side, &mut desk, turns);
     let Forwarding {
         reader: watched,
-        aside: _,
+        aside,
         place: _,
         rt: _,
     } = source;
@@ -356,6 +375,7 @@ fn serve_second<
         desk,
         reader,
         writer,
+        aside,
         result,
     }
 }

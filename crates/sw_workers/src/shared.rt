@@ -196,7 +196,7 @@ impl<H: Mainframe, R: Relay, M: Meter, G: Gate + Drop> Shared<H, R, M, G> {
         let mut guard = lock_soon(&self.held, rt);
         let before = guard.turn();
         guard.act_session(part, ask, answer, work);
-        self.follow(rt, seating, answer);
+        self.follow(rt, &guard, seating, answer);
         let turn = guard.turn();
         drop(guard);
         if turn != before {
@@ -207,7 +207,13 @@ impl<H: Mainframe, R: Relay, M: Meter, G: Gate + Drop> Shared<H, R, M, G> {
 
     /// Follows who joins and who leaves, while the mainframe is locked.
     #[inline(always)]
-    fn follow<W: Wait>(&self, rt: &W, seating: Seating, answer: &SessionAnswer) {
+    fn follow<W: Wait>(
+        &self,
+        rt: &W,
+        _locked: &Held<H, R, M>,
+        seating: Seating,
+        answer: &SessionAnswer,
+    ) {
         if let Seating::Stays = seating {
             return;
         }

@@ -4,12 +4,12 @@ ghost use Rattle.std.specs.Prelude.{◌≡◌, IfSome, IfNone};
 ghost use Rattle.sw_session.specs.CoreDesk.{piece_seen};
 
 use crate::pauses::Pause;
-use crossbeam_channel::{Receiver, SendError, Sender};
+use crossbeam_channel::{Receiver, RecvError, RecvTimeoutError, SendError, Sender};
 use std::alloc::{AllocError, Global};
 use std::marker::Brand;
 use std::sync::Wait;
 use std::thread;
-use std::time::{Clock, Duration};
+use std::time::{Clock, Duration, Instant};
 use sw_cage::Job;
 use sw_card::Meter;
 use sw_core::Work;
@@ -45,6 +45,65 @@ pub trait Carrier {
     /// Waits so many microseconds out.
     fn rest<C: Clock>(clock: &C, micros: u64)
         ensures { rested micros };
+}
+
+/// Which mainframe it is, to its workers: that a piece of work came, or the end of a pause, is known only from the call
+/// here that waited for it.
+pub trait Receiving {
+    ghost use Rattle.std.specs.Prelude.{IfOk, ◌≡◌, Err};
+    ghost use Rattle.std.specs.declared.time.Instant.{Instant};
+    ghost use Rattle.sw_core.specs.Seen.{WorkSeen, Measures};
+    ghost use Rattle.sw_workers.specs.declared.pauses.Pause.{Pause};
+
+    /// This measurement came to the thread that makes it.
+    ghost received: { WorkSeen → Type 0 };
+
+    /// This pause came to the thread that waits it out.
+    ghost arrived: { Pause → Type 0 };
+
+    /// This instant has come.
+    ghost reached: { Instant → Type 0 };
+
+    /// Waits for the next measurement.
+    fn receive_job<M: Meter, W: Wait>(rt: &W, way: &Receiver<Job<M>>) -> Result<Job<M>, RecvError>
+        ensures { IfOk result (λ job. received (Measures job.1)) };
+
+    /// Waits for the next pause.
+    fn receive_pause<W: Wait>(rt: &W, way: &Receiver<Pause>) -> Result<Pause, RecvError>
+        ensures { IfOk result arrived };
+
+    /// Waits for the next pause until this instant.
+    fn receive_until<W: Wait + Clock>(
+        rt: &W,
+        way: &Receiver<Pause>,
+        at: Instant,
+    ) -> Result<Pause, RecvTimeoutError>
+        ensures came { IfOk result arrived }
+        ensures over { result ≡ Err RecvTimeoutError.Timeout → reached at };
+}
+
+impl Receiving for Brand {
+    ghost received = { λ piece. Unit {0} };
+
+    ghost arrived = { λ pause. Unit {0} };
+
+    ghost reached = { λ at. Unit {0} };
+
+    fn receive_job<M: Meter, W: Wait>(rt: &W, way: &Receiver<Job<M>>) -> Result<Job<M>, RecvError> {
+        way.recv(rt)
+    }
+
+    fn receive_pause<W: Wait>(rt: &W, way: &Receiver<Pause>) -> Result<Pause, RecvError> {
+        way.recv(rt)
+    }
+
+    fn receive_until<W: Wait + Clock>(
+        rt: &W,
+        way: &Receiver<Pause>,
+        at: Instant,
+    ) -> Result<Pause, RecvTimeoutError> {
+        way.recv_deadline(rt, at)
+    }
 }
 
 impl Carrier for Brand {

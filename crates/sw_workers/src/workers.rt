@@ -1,12 +1,15 @@
 //! The threads that carry out work.
 
-ghost use Rattle.sw_workers.specs.Pauses.{EndsStanding};
-ghost use Rattle.sw_workers.specs.Work.{Works};
+ghost use Rattle.std.specs.Prelude.{ℕ, None, Some};
+ghost use Rattle.sw_core.specs.Seen.{Pauses};
+ghost use Rattle.sw_workers.specs.Pauses.{EndsStanding, BeginsArrived};
+ghost use Rattle.sw_workers.specs.Work.{Works, IsReceivedJob, IsOverPause, none_own};
 
 use crate::desk::SharedDesk;
 use crate::gate::{Gate, Point};
 use crate::held::Mainframe;
 use crate::pauses::{Next, Pause, Standing};
+use crate::work_channels::Receiving;
 use crossbeam_channel::{Receiver, RecvTimeoutError};
 use std::sync::Wait;
 use std::time::Clock;
@@ -22,12 +25,12 @@ pub fn run_card_worker<
     G: Gate + Drop,
     W: Wait + Clock + Copy + Drop,
 >(desk: SharedDesk<H, R, M, G, W>, jobs: Receiver<Job<M>>) -> SharedDesk<H, R, M, G, W>
-    ensures { Works H.first desk.part result.part }
+    ensures { Works H.first (IsReceivedJob H.received) None desk.part result.part }
 {
     let mut own = desk;
     let rt = own.rt;
     for _ in rt.forever() {
-        let Ok(job) = jobs.recv(&rt) else {
+        let Ok(job) = H::receive_job(&rt, &jobs) else {
             return own;
         };
         own.work_off(Work::Measure(job));
@@ -44,13 +47,13 @@ pub fn run_timer_worker<
     G: Gate + Drop,
     W: Wait + Clock + Copy + Drop,
 >(desk: SharedDesk<H, R, M, G, W>, pauses: Receiver<Pause>) -> SharedDesk<H, R, M, G, W>
-    ensures { Works H.first desk.part result.part }
+    ensures { Works H.first (IsOverPause H.arrived H.reached) None desk.part result.part }
 {
     let mut own = desk;
     let rt = own.rt;
     let mut standing = Standing::new();
     for _ in rt.forever() {
-        let next = await_next(&rt, &pauses, standing.pause());
+        let next = await_next::<H, W>(&rt, &pauses, standing.pause());
         standing = standing.after(next);
         match next {
             Next::Begins(_) => {}
@@ -62,16 +65,21 @@ pub fn run_timer_worker<
 }
 
 /// Waits for the next pause that comes, or for the end of the one that stands.
-fn await_next<W: Wait + Clock>(rt: &W, pauses: &Receiver<Pause>, stands: Option<Pause>) -> Next
-    ensures { EndsStanding stands result }
+fn await_next<H: Receiving, W: Wait + Clock>(
+    rt: &W,
+    pauses: &Receiver<Pause>,
+    stands: Option<Pause>,
+) -> Next
+    ensures ends { EndsStanding H.reached stands result }
+    ensures begins { BeginsArrived H.arrived result }
 {
     let Some(stands) = stands else {
-        return match pauses.recv(rt) {
+        return match H::receive_pause(rt, pauses) {
             Ok(pause) => Next::Begins(pause),
             Err(_) => Next::Over,
         };
     };
-    match pauses.recv_deadline(rt, stands.at) {
+    match H::receive_until(rt, pauses, stands.at) {
         Ok(pause) => Next::Begins(pause),
         Err(RecvTimeoutError::Timeout) => Next::Ends(stands.ticket),
         Err(RecvTimeoutError::Disconnected) => Next::Over,
@@ -83,7 +91,7 @@ fn end_pause<H: Mainframe, R: Relay, M: Meter, G: Gate + Drop, W: Wait + Clock +
     desk: &mut SharedDesk<H, R, M, G, W>,
     ticket: Ticket,
 )
-    ensures { Works H.first desk.old.part desk.new.part }
+    ensures { (micros : ℕ) → Works H.first none_own (Some (Pauses ticket micros)) desk.old.part desk.new.part }
 {
     desk.shared.gate().pass(&desk.rt, Point::Pause);
     let next = desk.tell(Ask::Elapsed(ticket));

@@ -106,6 +106,10 @@ impl<D: Driver, C: Clock + Drop> Driver for LatchedDriver<D, C> {
         self.driver.drive(ch, on)
     }
 
+    fn is_sure(&self) -> bool {
+        true
+    }
+
     fn cut(&mut self) {
         self.driver.cut();
     }

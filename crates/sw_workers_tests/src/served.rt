@@ -23,10 +23,12 @@ fn serve<H: Mainframe, R: Relay, M: Meter, G: Gate + Drop, W: Wait + Clock + Cop
         desk,
         reader,
         writer,
+        aside,
         result,
     } = ended;
     drop(reader);
     drop(writer);
+    drop(aside);
     drop(result);
     desk
 }

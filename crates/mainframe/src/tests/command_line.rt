@@ -35,12 +35,13 @@ fn a_run_with_a_fuse_and_without(rt: HostRuntime) -> Result<(), Fail> {
 
 /// To serve at this port of this machine alone, for ever, and to say nothing of it.
 fn at(port: u16) -> Result<Order, ErrorKind> {
-    Ok(Order::Serve(Serving {
+    let serving = Serving {
         address: None,
         port,
         until_end_of_input: false,
         is_logged: false,
-    }))
+    };
+    Ok(Order::Serve(serving, None))
 }
 
 #[test]
@@ -83,7 +84,7 @@ fn a_port_out_of_range(rt: HostRuntime) -> Result<(), Fail> {
 /// Whether this address is bound where it is asked for.
 fn is_bound(order: Result<Order, ErrorKind>, bound: &str) -> bool {
     match (order, bound.parse::<SocketAddr>()) {
-        (Ok(Order::Serve(serving)), Ok(at)) => serving.bound_at() == at,
+        (Ok(Order::Serve(serving, _)), Ok(at)) => serving.bound_at() == at,
         _ => false,
     }
 }
@@ -118,8 +119,32 @@ fn an_end_and_a_log(rt: HostRuntime) -> Result<(), Fail> {
         until_end_of_input: true,
         is_logged: true,
     };
-    assert_eq!(rt; both, Ok(Order::Serve(wanted)));
+    assert_eq!(rt; both, Ok(Order::Serve(wanted, None)));
     Ok(())
+}
+
+/// Whether these words ask for the order that is made of the file `F`.
+fn asks_for(alloc: Global, words: &[&str], order: fn(String) -> Order) -> Result<bool, Fail> {
+    Ok(asked(alloc, words)? == Ok(order(String::from_str(alloc, "F")?)))
+}
+
+#[test]
+fn a_rack(rt: HostRuntime) -> Result<(), Fail> {
+    let alloc = rt.alloc();
+    assert!(rt; asks_for(alloc, &["run", "--rack", "F"], |file| Order::RunRack(file))?);
+    assert!(rt;
+        asks_for(
+            alloc,
+            &["check", "--rack", "F"],
+            |file| Order::Check(Some(file))
+        )?
+    );
+    assert!(rt; asks_for(alloc, &["rack", "F"], |file| Order::Rack(file))?);
+    assert!(rt; asks_for(alloc, &["off", "--rack", "F"], |file| Order::Off(file))?);
+    check_refused(&rt, alloc, &["rack"], ErrorKind::MissingRequiredArgument)?;
+    check_refused(&rt, alloc, &["off"], ErrorKind::MissingRequiredArgument)?;
+    let both = ["run", "--fuse", "1", "--rack", "F"];
+    check_refused(&rt, alloc, &both, ErrorKind::ArgumentConflict)
 }
 
 #[test]

@@ -1,7 +1,7 @@
 //! Checking listings over memory, and over readers and writers that fail.
 
 use crate::fault::RunFault;
-use crate::listing::check_listing;
+use crate::listing::{check_listing, program_layout};
 use std::alloc::Global;
 use std::io;
 use std::io::{ErrorKind, Read, Write};
@@ -21,7 +21,10 @@ const THREE_PASSES_NOW: &[u8] =
 fn says(alloc: Global, listing: &[u8], told: &[u8], status: u8) -> bool {
     let mut reader = listing;
     let mut out = Vec::new(alloc);
-    let exit = match check_listing(alloc, &mut reader, &mut out) {
+    let Ok(layout) = program_layout(alloc) else {
+        return false;
+    };
+    let exit = match check_listing(alloc, &mut reader, &mut out, &layout) {
         Ok(checked) => checked.status(),
         Err(_) => return false,
     };
@@ -97,7 +100,12 @@ impl Read for Broken {
 #[test]
 fn a_read_fails_in_a_listing(rt: HostRuntime) -> Result<(), Fail> {
     let mut out = Vec::new(rt.alloc());
-    let checked = check_listing(rt.alloc(), &mut Broken { given: false }, &mut out);
+    let checked = check_listing(
+        rt.alloc(),
+        &mut Broken { given: false },
+        &mut out,
+        &program_layout(rt.alloc())?,
+    );
     assert!(rt; matches!(checked, Err(RunFault::Input)));
     assert!(rt; out.is_empty());
     Ok(())
@@ -129,7 +137,12 @@ fn a_write_fails_in_an_answer(rt: HostRuntime) -> Result<(), Fail> {
     let mut writer = Full {
         taken: Vec::new(rt.alloc()),
     };
-    let checked = check_listing(rt.alloc(), &mut b"".as_slice(), &mut writer);
+    let checked = check_listing(
+        rt.alloc(),
+        &mut b"".as_slice(),
+        &mut writer,
+        &program_layout(rt.alloc())?,
+    );
     assert!(rt; matches!(checked, Err(RunFault::Output)));
     assert_eq!(rt; writer.taken.as_slice(), b"line ".as_slice());
     Ok(())

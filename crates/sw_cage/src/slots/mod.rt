@@ -74,6 +74,20 @@ impl<R: Relay, M: Meter> Slots<R, M> {
         slot >= 1 && slot <= SLOTS && self.slots[slot as usize - 1].card.is_some()
     }
 
+    /// The slot's card.
+    #[tactic(auto, using(crate::proofs::SlotChangeLemmas::slot_past))]
+    pub(crate) fn card(&self, slot: u8) -> Option<&Card<R, M>>
+        ensures some { IfSome result (λ card. slot_at self.now slot ≡ Some card.now) }
+        ensures account { IfSome result (λ card. slot_at (accounts_of self.now) slot ≡ Some card.now.1) }
+        ensures none { IfNone result (slot_at (accounts_of self.now) slot ≡ None) }
+    {
+        if slot >= 1 && slot <= SLOTS {
+            self.slots[slot as usize - 1].card.as_ref()
+        } else {
+            None
+        }
+    }
+
     /// Puts a card into an empty slot.
     pub(crate) fn install(
         &mut self,

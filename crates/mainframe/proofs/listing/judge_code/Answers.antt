@@ -2,9 +2,9 @@ use Rattle.mainframe.proofs.ListingsLemmas.{said_refused}
 use Rattle.mainframe.proofs.listing.judge_code.Goals as goal
 
 -- what is refused
-pub returns : goal.returns
-returns c = record {
-  says = said_refused _ _ _ _ _ _ _ c.in-Ok.ensures c.requires.listed c.in-Err.ensures.refused c.in_default-refusal.not-NoMemory c.refused.ensures.line
+pub returns-in_default : goal.returns-in_default
+returns-in_default c = record {
+  says = said_refused _ _ _ _ _ _ _ c.requires.listed c.in-Err.ensures.refused c.in_default.not-NoMemory c.refused.ensures.line
       c.refused.ensures.accepted;
   memory = c.refused.ensures.memory;
 }

@@ -11,7 +11,7 @@ use Rattle.sw_verify.specs.Stops.{IsBarredAt}
 use Rattle.sw_verify.specs.declared.refusal.Refusal.{Refusal}
 use Rattle.sw_channel.specs.Positions.{Position}
 use Rattle.sw_base.specs.Layout.{Channel}
-use Rattle.sw_verify.proofs.Checked.{sound_from_free, free_from_sound, present_from_sound, each_but_any, each_not_barred}
+use Rattle.sw_verify.proofs.Checked.{sound_from_free, free_from_sound, present_from_sound, each_but_any, each_not_barred, any_barred}
 use Rattle.sw_verify.proofs.First.{first_absent, first_blocked, first_too_many}
 use Rattle.sw_verify.proofs.ready.check.Goals as goal
 
@@ -35,13 +35,13 @@ returns-then-not-are_present-clause-first c =
     let listed = listed_from_test c.is_empty.result _ (length p.settings.list) c.is_empty.ensures c.if-is_empty.false (sym (ap length c.list.ensures.list)) in
     first_absent p listed (sym judged ∙ c.if-not-are_present.true)
 
-pub returns-then-not-are_free-clause-ok : goal.returns-then-not-are_free-clause-ok
-returns-then-not-are_free-clause-ok c =
+pub returns-in-Some-clause-ok : goal.returns-in-Some-clause-ok
+returns-in-Some-clause-ok c =
     let p = c.args.snapshot.now in
     let barred : Any (λ (q : Position). (r : Refusal) × IsBarredAt p.layout (is_among p.closed) q r) (used_of p.settings) =
     subst (λ (l : List Position). Any (λ (q : Position). (r : Refusal) × IsBarredAt p.layout (is_among p.closed) q r) l) c.used-used.ensures
     (subst (λ (l : List Channel). Any (λ (q : Position). (r : Refusal) × IsBarredAt p.layout (is_among l) q r) c.used-used.result.now) c.as_slice.ensures
-    (c.are_free.ensures.blocked c.if-not-are_free.true)) in (
+    (any_barred _ _ _ _ c.in-Some.ensures.blocked)) in (
       λ h. absurd (false≢true h),
       λ w.
           absurd (each_but_any (CanCloseEach p.layout (is_among p.closed)) (λ (q : Position). (r : Refusal) × IsBarredAt p.layout (is_among p.closed) q r)
@@ -49,15 +49,15 @@ returns-then-not-are_free-clause-ok c =
           (free_from_sound p.layout p.closed p.settings w.listed c.list.ensures.range w.sound) barred),
     )
 
-pub returns-then-not-are_free-clause-first : goal.returns-then-not-are_free-clause-first
-returns-then-not-are_free-clause-first c =
+pub returns-in-Some-clause-first : goal.returns-in-Some-clause-first
+returns-in-Some-clause-first c =
     let p = c.args.snapshot.now in
     let judged : c.are_present.result ≡ list_all (list_all (is_present p.layout)) (used_of p.settings) = c.are_present.ensures
     ∙ ap (list_all (list_all (is_present p.layout))) c.used-used.ensures in
     let barred : Any (λ (q : Position). (r : Refusal) × IsBarredAt p.layout (is_among p.closed) q r) (used_of p.settings) =
     subst (λ (l : List Position). Any (λ (q : Position). (r : Refusal) × IsBarredAt p.layout (is_among p.closed) q r) l) c.used-used.ensures
     (subst (λ (l : List Channel). Any (λ (q : Position). (r : Refusal) × IsBarredAt p.layout (is_among l) q r) c.used-used.result.now) c.as_slice.ensures
-    (c.are_free.ensures.blocked c.if-not-are_free.true)) in
+    (any_barred _ _ _ _ c.in-Some.ensures.blocked)) in
     let listed = listed_from_test c.is_empty.result _ (length p.settings.list) c.is_empty.ensures c.if-is_empty.false (sym (ap length c.list.ensures.list)) in
     let measured : has_meter p.layout p.settings.meter ≡ true = ap (has_meter p.layout) (sym c.meter.ensures) ∙ sym c.has_meter.ensures
     ∙ c.if-not-has_meter.false in
@@ -71,7 +71,7 @@ returns-then-from-readings-clause-first c =
     let free : AllByRecursion (CanCloseEach p.layout (is_among p.closed)) (used_of p.settings) =
     subst (λ (l : List Position). AllByRecursion (CanCloseEach p.layout (is_among p.closed)) l) c.used-used.ensures
     (subst (λ (l : List Channel). AllByRecursion (CanCloseEach p.layout (is_among l)) c.used-used.result.now) c.as_slice.ensures
-    (c.are_free.ensures.free c.if-not-are_free.false)) in
+    c.in_default.ensures.free) in
     let listed = listed_from_test c.is_empty.result _ (length p.settings.list) c.is_empty.ensures c.if-is_empty.false (sym (ap length c.list.ensures.list)) in
     let measured : has_meter p.layout p.settings.meter ≡ true = ap (has_meter p.layout) (sym c.meter.ensures) ∙ sym c.has_meter.ensures
     ∙ c.if-not-has_meter.false in
@@ -85,7 +85,7 @@ returns-clause-ok c =
     let free : AllByRecursion (CanCloseEach p.layout (is_among p.closed)) (used_of p.settings) =
     subst (λ (l : List Position). AllByRecursion (CanCloseEach p.layout (is_among p.closed)) l) c.used-used.ensures
     (subst (λ (l : List Channel). AllByRecursion (CanCloseEach p.layout (is_among l)) c.used-used.result.now) c.as_slice.ensures
-    (c.are_free.ensures.free c.if-not-are_free.false)) in
+    c.in_default.ensures.free) in
     let listed = listed_from_test c.is_empty.result _ (length p.settings.list) c.is_empty.ensures c.if-is_empty.false (sym (ap length c.list.ensures.list)) in
     let present : list_all (list_all (is_present p.layout)) (used_of p.settings) ≡ true = sym judged ∙ c.if-not-are_present.false in
     let measured : has_meter p.layout p.settings.meter ≡ true = ap (has_meter p.layout) (sym c.meter.ensures) ∙ sym c.has_meter.ensures

@@ -15,5 +15,5 @@ returns g c =
       events = c.self.inside.events;
     } in
     rw (← c.self.view_is) (returned_brings p c.conclude.new.self c.args.done.1 (taken_seen c.in-Ok.said) c.finish.new.self.seen c.report_fault.new.status
-    (work_seen c.conclude.new.work) c.in-Ok.ensures.in_slot c.in-Ok.ensures.late c.in-Ok.ensures.taken c.in-Ok.ensures.takes c.report_fault.ensures
+    (work_seen c.conclude.new.work) c.finish.ensures.told c.in-Ok.ensures.in_slot c.in-Ok.ensures.late c.in-Ok.ensures.taken c.in-Ok.ensures.takes c.report_fault.ensures
     c.conclude.ensures.ended c.conclude.ensures.brings)

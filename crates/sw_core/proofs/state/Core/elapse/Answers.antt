@@ -1,5 +1,4 @@
 use Rattle.std.proofs.Common.{◌≡◌, ◌==◌, false, arith}
-use Rattle.sw_cage.specs.Change.{any_failed}
 use Rattle.sw_cage.specs.TakenSeen.{taken_seen}
 use Rattle.sw_core.specs.Event.{last_number}
 use Rattle.sw_core.specs.Seen.{work_seen}
@@ -10,5 +9,5 @@ pub returns : goal.returns
 returns g c =
     let left : (c.args.self.now.events == last_number) ≡ false = grind arith in
     elapsed_brings c.args.self.now c.conclude.new.self c.happens-told.new.self c.args.ticket
-    (any_failed c.args.self.now.cage.cards c.happens-told.new.self.cage.cards) (taken_seen c.happens-told.result) (work_seen c.conclude.new.work) left
+    (taken_seen c.happens-told.result) (work_seen c.conclude.new.work) left
     c.happens-told.ensures c.conclude.ensures.ended c.conclude.ensures.brings

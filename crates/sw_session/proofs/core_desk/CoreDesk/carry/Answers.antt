@@ -1,9 +1,7 @@
-use Rattle.sw_session.proofs.KeepingLemmas.{carried, brought-is}
+use Rattle.sw_session.proofs.KeepingLemmas.{carried}
 use Rattle.sw_session.proofs.core_desk.CoreDesk.carry.Goals as goal
 
 pub returns : goal.returns
 returns g c =
     let told = c.carry_out.ensures.step in
-    let step = told.2 in
-    carried _ _ _ _ _ _ _ told.1 step.step (brought-is step.answer _ step.brings) c.carry_out.ensures.work
-    c.carry_out.ensures.room c.carry_out.ensures.available
+    carried _ _ _ _ _ told.1 told.2 c.carry_out.ensures.work c.carry_out.ensures.room c.carry_out.ensures.available

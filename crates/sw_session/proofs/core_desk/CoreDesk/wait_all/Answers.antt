@@ -1,5 +1,5 @@
 use Rattle.std.proofs.Common.{refl, None, arith}
-use Rattle.sw_session.proofs.KeepingLemmas.{waited-more, rests-over, rests-in-vain, passes-over, passes-wait, carried, brought-is}
+use Rattle.sw_session.proofs.KeepingLemmas.{waited-more, rests-over, rests-in-vain, passes-over, passes-wait, carried}
 use Rattle.sw_session.proofs.core_desk.CoreDesk.wait_all.Goals as goal
 
 pub loop-turn-init : goal.loop-turn-init
@@ -12,11 +12,9 @@ returns-in_default-clause-rests g c =
 pub loop-turn-preserved : goal.loop-turn-preserved
 loop-turn-preserved g c =
     let told = c.carry_out.ensures.step in
-    let step = told.2 in
     waited-more _ _ _ c.loop-turn._turn _ c.loop-turn.invariant (
     passes-wait _ _ _ _ _ _ None c.in-Some.ensures.some
-    (carried _ _ _ _ _ _ _ told.1 step.step (brought-is step.answer _ step.brings) c.carry_out.ensures.work
-    c.carry_out.ensures.room c.carry_out.ensures.available)
+    (carried _ _ _ _ _ told.1 told.2 c.carry_out.ensures.work c.carry_out.ensures.room c.carry_out.ensures.available)
     c.keep.ensures)
 
 pub returns-clause-rests : goal.returns-clause-rests

@@ -1,9 +1,9 @@
+use Rattle.std.specs.Prelude.{◌==◌, ◌&&◌, not}
 use Rattle.std.proofs.Common.{rules, ◌≡◌, ℕ, ◌+◌, Bool, true, false, List, ap, sym, ◌∙◌, arith}
-use Rattle.std.proofs.lemmas.Bool.{and_parts}
+use Rattle.sw_core.specs.Event.{last_number}
 use Rattle.sw_core.specs.Seen.{ask_seen, answer_seen, failed_in}
 use Rattle.sw_workers.specs.declared.note.Note.{Note}
 use Rattle.sw_workers.specs.Board.{entry_of}
-use Rattle.sw_workers.specs.Closing.{EndsAtRest, is_unasked}
 use Rattle.sw_workers.specs.Entries.{HistoryEntry}
 use Rattle.sw_workers.specs.Held.{Locked, note_of, notes_of, noted}
 use Rattle.sw_workers.specs.History.{said_at, grown}
@@ -11,7 +11,7 @@ use Rattle.sw_workers.specs.Shares.{is_event, is_counted, one_if}
 use Rattle.sw_workers.proofs.AtDesksLemmas.{some_desk}
 use Rattle.sw_workers.proofs.CountedLemmas.{step_counted, counted_apart}
 use Rattle.sw_workers.proofs.NotesLemmas.{ring_more, notes_grown}
-use Rattle.sw_workers.proofs.RestLemmas.{ends_on}
+use Rattle.sw_workers.proofs.RestLemmas.{ends_where}
 use Rattle.sw_workers.proofs.held.Held.ask.Goals as goal
 
 pub ask-answer-requires : goal.ask-answer-requires
@@ -35,6 +35,26 @@ returns-clause-share g c =
     let up = counted_apart p q _ _ b c.events-before.ensures c.events-number.ensures counted in
     rw (← c.part.view_is, ← c.self.view_is) (c.count.ensures.share.1 ∙ ap (λ (n : ℕ). c.part.inside.share.amount + n) up)
 
+pub invariant_of-self : goal.invariant_of-self
+invariant_of-self g c =
+    let i = c.self.invariant in
+    let answer = c.ask-answer.result in
+    let none : is_event (answer_seen answer) ≡ false = search rules in
+    let es = c.self.inside.core.history in
+    let e : HistoryEntry = entry_of c.part.inside.seat (said_at c.ask-answer.new.self.panel (ask_seen c.args.ask) (answer_seen answer)) in
+    let same : c.ask-answer.new.self.history ≡ es = c.ask-answer.ensures.grown ∙ ap (λ (b : Bool). grown b es e) none in
+    let p = c.self.inside.core.panel.events in
+    let q = c.ask-answer.new.self.panel.events in
+    let counted : q ≡ p + one_if (is_counted p (answer_seen answer)) = search (rules, step_counted) in
+    let still : q ≡ p + 0 = counted ∙ ap (λ (b : Bool). p + one_if (b && not (p == last_number))) none in
+    let good = c.runs_go_on.ensures.good c.self.inside.core.panel c.has_history.ensures.reached in
+    let rest = ends_where g.H.Recording.first c.self.inside.core.panel c.ask-answer.new.self.panel
+    (failed_in (ask_seen c.args.ask) (answer_seen answer) c.self.inside.core.panel.cage.cards c.ask-answer.new.self.panel.cage.cards) es
+    c.ask-answer.new.self.history c.part.inside.seat c.ask-answer.new.desk (ask_seen c.args.ask) (answer_seen answer)
+    c.self.inside.at_rest c.rests_on-self-inside.result good.good.held i.7 c.rests_on-self-inside.ensures
+    c.ask-answer.ensures.step c.ask-answer.ensures.history c.ask-answer.ensures.grown in
+    (omega (arith, still, i.0), i.1, i.2, i.3, i.4 ∙ ap notes_of (sym same), i.5, i.6, rest)
+
 pub invariant_of-self-2 : goal.invariant_of-self-2
 invariant_of-self-2 g c =
     let i = c.self.invariant in
@@ -52,10 +72,9 @@ invariant_of-self-2 g c =
     let counted : q ≡ p + one_if b = search (rules, step_counted) in
     let up = counted_apart p q _ _ b c.events-before.ensures c.events-number.ensures counted in
     let good = c.runs_go_on.ensures.good c.self.inside.core.panel c.has_history.ensures.reached in
-    let rest : c.rests_on-self-inside.result ≡ true → EndsAtRest g.H.Recording.first c.ask-answer.new.self.history c.ask-answer.new.self.panel =
-    λ at. let both = and_parts c.self.inside.at_rest (is_unasked (ask_seen c.args.ask)) (sym c.rests_on-self-inside.ensures ∙ at) in
-    ends_on g.H.Recording.first c.self.inside.core.panel c.ask-answer.new.self.panel
+    let rest = ends_where g.H.Recording.first c.self.inside.core.panel c.ask-answer.new.self.panel
     (failed_in (ask_seen c.args.ask) (answer_seen answer) c.self.inside.core.panel.cage.cards c.ask-answer.new.self.panel.cage.cards) es
-    c.ask-answer.new.self.history c.part.inside.seat c.ask-answer.new.desk (ask_seen c.args.ask) (answer_seen answer) good.good.held (i.7 both.0) both.1
+    c.ask-answer.new.self.history c.part.inside.seat c.ask-answer.new.desk (ask_seen c.args.ask) (answer_seen answer)
+    c.self.inside.at_rest c.rests_on-self-inside.result good.good.held i.7 c.rests_on-self-inside.ensures
     c.ask-answer.ensures.step c.ask-answer.ensures.history c.ask-answer.ensures.grown in
     (omega (arith, up, counted, i.0, c.count.ensures.events), i.1, i.2, ring.0, ring.1, i.5, i.6, rest)

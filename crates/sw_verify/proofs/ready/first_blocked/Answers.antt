@@ -1,15 +1,23 @@
-use Rattle.std.proofs.Common.{sym, subst}
+use Rattle.std.proofs.Common.{take, sym, subst}
 use Rattle.std.proofs.lemmas.List.{take_all}
 use Rattle.std.proofs.lemmas.List.Elements.{All-more, recursion_from_All}
 use Rattle.sw_verify.specs.Channels.{is_among, none}
 use Rattle.sw_verify.specs.Sound.{CanCloseEach}
 use Rattle.sw_verify.proofs.Each.{shows_again, opens_again}
-use Rattle.sw_verify.proofs.ready.are_free.Goals as goal
+use Rattle.sw_verify.proofs.ready.first_blocked.Goals as goal
 
 pub returns-in-Err-clause-blocked : goal.returns-in-Err-clause-blocked
-returns-in-Err-clause-blocked c = λ e.
+returns-in-Err-clause-blocked c =
     let b = is_among c.args.closed.now in
-    (c.loop-p.p-index, c.p-item.result, c.loop-p-test.true, sym c.p-item.is, (c.in-Err.field-0, c.in-Err.ensures.barred b b none c.loop-p.invariant.shows))
+    let P = CanCloseEach c.args.layout.now b in
+    record {
+      at = c.loop-p.p-index;
+      within = c.loop-p-test.true;
+      there = sym c.p-item.is;
+      before = recursion_from_All P (take c.loop-p.p-index c.args.positions.now) c.loop-p.invariant.can;
+      cause = c.in-Err.field-0;
+      barred = c.in-Err.ensures.barred b b none c.loop-p.invariant.shows;
+    }
 
 pub unreachable-requires : goal.unreachable-requires
 unreachable-requires c =
@@ -30,7 +38,7 @@ loop-p-preserved c =
     }
 
 pub returns-clause-free : goal.returns-clause-free
-returns-clause-free c = λ e.
+returns-clause-free c =
     let P = CanCloseEach c.args.layout.now (is_among c.args.closed.now) in
     let ps = c.args.positions.now in
     recursion_from_All P ps (rw (take_all c.loop-p.p-index ps c.loop-p-test.false) at c.loop-p.invariant.can)

@@ -3,7 +3,7 @@ use Rattle.std.specs.List.{All}
 use Rattle.sw_verify.specs.Channels.{is_among, none}
 use Rattle.sw_verify.specs.Sound.{CanCloseEach}
 use Rattle.sw_verify.specs.Ledger.{Shows}
-use Rattle.sw_verify.proofs.ready.are_free.Given as goal
+use Rattle.sw_verify.proofs.ready.first_blocked.Given as goal
 
 abbrev pub invariant-loop-p : goal.invariant-loop-p
 invariant-loop-p l = record {

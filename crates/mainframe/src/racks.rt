@@ -1,0 +1,195 @@
+//! A rack's file on the command line: its cards in place of the simulated ones.
+
+use crate::rack_cards::{RackMeter, RackRelays, board_of, cards_of, source_of};
+use crate::rack_fault::RackCardFault;
+use crate::rack_text::{confirms_nothing, describe, place_of_relays};
+use std::alloc::{AllocError, Global};
+use std::fs::File;
+use std::io;
+use std::process::ExitCode;
+use std::rt::Files;
+use sw_base::SLOTS;
+use sw_drivers::{Board, DriverFault, Interlock, Told};
+use sw_rack::{CardKind, Groups, Rack, RackCard, RackError, read_rack};
+use sw_serve::SlotCard;
+
+/// Standard error, where a driver tells why a call of it has failed.
+#[derive(Clone, Copy, Drop)]
+pub struct ErrorTold {
+    rt: HostRuntime,
+    alloc: Global,
+}
+
+impl Told for ErrorTold {
+    fn tell(&self, slot: u8, fault: DriverFault) {
+        if let Ok(line) = format!(in self.alloc; "mainframe: slot {slot}: {fault}\n") {
+            let _ = eprint!(self.rt; "{line}");
+        }
+    }
+}
+
+/// The cards of a rack for their slots, over the host's network and files.
+pub type HostCards = Vec<SlotCard<RackRelays<ErrorTold>, RackMeter<ErrorTold>>>;
+
+/// The text of this file.
+fn text_in<W: Files>(rt: &W, alloc: Global, path: &str) -> io::Result<String> {
+    io::read_to_string(alloc, File::open(rt, path)?)
+}
+
+/// The rack that this file describes; or the status to end with, the cause being told.
+pub fn rack_in<W: Files + Eprint>(rt: &W, alloc: Global, path: &str) -> Result<Rack, ExitCode> {
+    let text = match text_in(rt, alloc, path) {
+        Ok(text) => text,
+        Err(error) => {
+            let _ = eprintln!(rt; "mainframe: {path}: {error}");
+            return Err(ExitCode::from(2));
+        }
+    };
+    match read_rack(alloc, text.as_str()) {
+        Ok(rack) => Ok(rack),
+        Err(RackError::Memory) => Err(out_of_memory(rt)),
+        Err(error) => {
+            let _ = eprintln!(rt; "mainframe: {path}: {error}");
+            Err(ExitCode::from(2))
+        }
+    }
+}
+
+/// The cards of the rack that this file describes, each reached, with every relay off; or the status to end with, the
+/// cause being told.
+pub fn cards_in(rt: &HostRuntime, path: &str) -> Result<(HostCards, Interlock), ExitCode> {
+    let alloc = rt.alloc();
+    let rack = rack_in(rt, alloc, path)?;
+    let Ok(interlock) = Interlock::new(alloc) else {
+        return Err(out_of_memory(rt));
+    };
+    for card in &rack.cards {
+        if confirms_nothing(card) {
+            let slot = card.slot;
+            let _ = eprintln!(rt; "mainframe: slot {slot}: its board confirms nothing");
+        }
+    }
+    match cards_of(*rt, alloc, rack, &interlock, ErrorTold { rt: *rt, alloc }) {
+        Ok(cards) => Ok((cards, interlock)),
+        Err(fault) => {
+            let _ = eprintln!(rt; "mainframe: {fault}");
+            Err(ExitCode::from(1))
+        }
+    }
+}
+
+/// The status at the end: where a slot's relays may be closed still, each is told, and it is 1.
+pub fn ended(rt: &impl Eprint, interlock: &Interlock, status: ExitCode) -> ExitCode {
+    if !interlock.is_held() {
+        return status;
+    }
+    for before in 0..SLOTS {
+        let slot = before + 1;
+        if interlock.is_unsure(slot) {
+            let _ = eprintln!(rt;
+                "mainframe: slot {slot}: its board has not confirmed that its relays are off"
+            );
+        }
+    }
+    ExitCode::from(1)
+}
+
+/// Says what a rack's file asks for, and reaches each card. Moves nothing.
+pub fn tell_rack(rt: &HostRuntime, path: &str) -> ExitCode {
+    with_each_card(rt, path, Doing::Reaching)
+}
+
+/// Switches off every relay of a rack, and reads back that it is.
+pub fn switch_off(rt: &HostRuntime, path: &str) -> ExitCode {
+    with_each_card(rt, path, Doing::SwitchingOff)
+}
+
+/// What is done with each card of a rack.
+#[derive(Clone, Copy, Drop)]
+enum Doing {
+    Reaching,
+    SwitchingOff,
+}
+
+/// Does this with each card, whatever came of those before. What came of it is told; the status is 1 where one failed.
+fn with_each_card(rt: &HostRuntime, path: &str, doing: Doing) -> ExitCode {
+    let rack = match rack_in(rt, rt.alloc(), path) {
+        Ok(rack) => rack,
+        Err(status) => return status,
+    };
+    let mut status = ExitCode::SUCCESS;
+    for card in rack.cards {
+        if !is_done(rt, card, doing) {
+            status = ExitCode::from(1);
+        }
+    }
+    status
+}
+
+/// Does this with a card, and tells what came of it.
+fn is_done(rt: &HostRuntime, card: RackCard, doing: Doing) -> bool {
+    let told = describe(rt.alloc(), &card);
+    let done = match doing {
+        Doing::Reaching => reach(rt, card),
+        Doing::SwitchingOff => clear(rt, card),
+    };
+    match (done, told) {
+        (Ok(Some(word)), Ok(told)) => {
+            let _ = println!(rt; "{told}: {word}");
+            true
+        }
+        (Ok(None), _) => true,
+        (Err(fault), _) => {
+            let _ = eprintln!(rt; "mainframe: {fault}");
+            false
+        }
+        (Ok(Some(_)), Err(_)) => {
+            let _ = eprintln!(rt; "mainframe: out of memory");
+            false
+        }
+    }
+}
+
+fn out_of_memory(rt: &impl Eprint) -> ExitCode {
+    let _ = eprintln!(rt; "mainframe: out of memory");
+    ExitCode::from(1)
+}
+
+/// Reaches what stands behind a card.
+fn reach(rt: &HostRuntime, card: RackCard) -> Result<Option<&'static str>, RackCardFault> {
+    let alloc = rt.alloc();
+    let RackCard { slot, kind, .. } = card;
+    match kind {
+        CardKind::Relays(groups, relays) => {
+            let Groups { numbers } = groups;
+            let place = String::from_str(alloc, place_of_relays(&relays))?;
+            let mut board = board_of(*rt, alloc, slot, numbers.len() as u8, relays)?;
+            match board.reach() {
+                Ok(()) => Ok(Some("reached")),
+                Err(fault) => Err(RackCardFault::Driver(slot, place, fault)),
+            }
+        }
+        CardKind::Meter(meter) => {
+            drop(source_of(*rt, alloc, slot, meter, ErrorTold { rt: *rt, alloc })?);
+            Ok(Some("reached"))
+        }
+    }
+}
+
+/// Switches off the relays of a card.
+fn clear(rt: &HostRuntime, card: RackCard) -> Result<Option<&'static str>, RackCardFault> {
+    let alloc = rt.alloc();
+    let RackCard { slot, kind, .. } = card;
+    match kind {
+        CardKind::Relays(groups, relays) => {
+            let Groups { numbers } = groups;
+            let place = String::from_str(alloc, place_of_relays(&relays))?;
+            let mut board = board_of(*rt, alloc, slot, numbers.len() as u8, relays)?;
+            match board.clear() {
+                Ok(()) => Ok(Some("every relay is off")),
+                Err(fault) => Err(RackCardFault::Driver(slot, place, fault)),
+            }
+        }
+        CardKind::Meter(_) => Ok(None),
+    }
+}
