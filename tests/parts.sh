@@ -2,16 +2,19 @@
 # The parts of the tests, those first that find a fault the soonest. `+` joins those that are made at once, since they
 # mostly wait, and measure no time that is not many times as long as they need:
 PARTS="transcripts process documents building clients serving racks connections+crowds ends hostile growths"
+# What tells of a failure, in the lines that a part prints.
+TELLING='^rt: FAILED|: NOT [A-Z]+|: (Failure|[A-Za-z]*Error|TimeoutExpired): |^wrong/test: '
 passed=0
 failed=0
 lines=()
+faults=()
 running=()
 logs=$(mktemp -d)
 trap 'for each in "${running[@]}"; do kill -INT -- "-$each" 2>/dev/null; done; rm -rf "$logs"' EXIT
 
 # count NAME SECONDS: counts what a part told; one that does not tell how many passed and failed has failed.
 count() {
-  local counts line
+  local counts line before=$failed
   counts=$(tail -n 1 "$logs/$1")
   if [[ $counts =~ ^([0-9]+)\ passed,\ ([0-9]+)\ failed$ ]]; then
     passed=$((passed + BASH_REMATCH[1]))
@@ -19,6 +22,9 @@ count() {
   else
     failed=$((failed + 1))
     counts="did not reach its end"
+  fi
+  if [ "$failed" -gt "$before" ]; then
+    mapfile -t -O ${#faults[@]} faults < <(grep -aE "$TELLING" "$logs/$1" | cut -c 1-400 | tail -n 12)
   fi
   line=$(printf '== %-28s %6d s  %s' "$1" "$2" "$counts")
   lines+=("$line")
@@ -58,8 +64,8 @@ parts() {
   done
 }
 
-# total: prints the line of each part again, and `N passed, M failed` of all.
+# total: prints again the line of each part and the lines that tell what failed, and `N passed, M failed` of all.
 total() {
-  printf '%s\n' "${lines[@]}" "$passed passed, $failed failed"
+  printf '%s\n' "${lines[@]}" "${faults[@]}" "$passed passed, $failed failed"
   [ "$failed" = 0 ]
 }
