@@ -3,7 +3,7 @@
 use crate::command_line::{Order, Serving, parse_words, unrun_status};
 use crate::fault::RunFault;
 use clap::error::ErrorKind;
-use std::alloc::Global;
+use std::alloc::{AllocError, Global};
 use std::net::SocketAddr;
 use std::process::Abort;
 use std::test::Fail;
@@ -123,24 +123,22 @@ fn an_end_and_a_log(rt: HostRuntime) -> Result<(), Fail> {
     Ok(())
 }
 
-/// Whether these words ask for the order that is made of the file `F`.
-fn asks_for(alloc: Global, words: &[&str], order: fn(String) -> Order) -> Result<bool, Fail> {
-    Ok(asked(alloc, words)? == Ok(order(String::from_str(alloc, "F")?)))
+/// The name of a file.
+fn file(alloc: Global) -> Result<String, AllocError> {
+    String::from_str(alloc, "F")
 }
 
 #[test]
 fn a_rack(rt: HostRuntime) -> Result<(), Fail> {
     let alloc = rt.alloc();
-    assert!(rt; asks_for(alloc, &["run", "--rack", "F"], |file| Order::RunRack(file))?);
-    assert!(rt;
-        asks_for(
-            alloc,
-            &["check", "--rack", "F"],
-            |file| Order::Check(Some(file))
-        )?
-    );
-    assert!(rt; asks_for(alloc, &["rack", "F"], |file| Order::Rack(file))?);
-    assert!(rt; asks_for(alloc, &["off", "--rack", "F"], |file| Order::Off(file))?);
+    let run = Order::RunRack(file(alloc)?);
+    assert_eq!(rt; asked(alloc, &["run", "--rack", "F"])?, Ok(run));
+    let check = Order::Check(Some(file(alloc)?));
+    assert_eq!(rt; asked(alloc, &["check", "--rack", "F"])?, Ok(check));
+    let rack = Order::Rack(file(alloc)?);
+    assert_eq!(rt; asked(alloc, &["rack", "F"])?, Ok(rack));
+    let off = Order::Off(file(alloc)?);
+    assert_eq!(rt; asked(alloc, &["off", "--rack", "F"])?, Ok(off));
     check_refused(&rt, alloc, &["rack"], ErrorKind::MissingRequiredArgument)?;
     check_refused(&rt, alloc, &["off"], ErrorKind::MissingRequiredArgument)?;
     let both = ["run", "--fuse", "1", "--rack", "F"];
