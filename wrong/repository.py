@@ -2,7 +2,8 @@
 
 wrong/record has a hash for each such crate: of the crate, of what it sees of the crates below it (seen.py), of its
 edits as they are read, of what judges them (judging.py) and of the kit's logic. By these alone an edit is refused or
-not, so neither the form of an edits file nor the other scripts count.
+not, so neither the crate's tests, which no check of an edit reads, nor the form of an edits file nor the other scripts
+count.
 """
 import hashlib
 import os
@@ -61,7 +62,8 @@ class Repository:
         with open(f"{HERE}/judging.py", encoding="utf-8") as it:
             texts = [("judging.py", it.read())]
         texts += [(it.name, repr((it.function, it.pairs, it.fault))) for it in self.edits(crate)]
-        texts += [(it, self.crates.texts[it]) for it in sorted(self.crates.files_of(crate))]
+        files = (it for it in self.crates.files_of(crate) if not it.startswith(f"{crate}/src/tests/"))
+        texts += [(it, self.crates.texts[it]) for it in sorted(files)]
         texts += [(it.file, it.text) for it in self.crates.seen_by(crate)]
         for name, text in texts:
             whole.update(f"{name}\n".encode() + hashlib.sha256(text.encode()).digest())
