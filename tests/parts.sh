@@ -3,7 +3,7 @@
 # mostly wait, and measure no time that is not many times as long as they need:
 PARTS="transcripts process documents building clients serving racks connections+crowds ends hostile growths"
 # What tells of a failure, in the lines that a part prints.
-TELLING='^rt: FAILED|: NOT [A-Z]+|: (Failure|[A-Za-z]*Error|TimeoutExpired): |^wrong/test: '
+TELLING='^rt: FAILED|NOT (PROVED|TRIED|REFUSED)|: BAD EDIT|: (Failure|[A-Za-z]*Error|TimeoutExpired): |^wrong/test: '
 passed=0
 failed=0
 lines=()
