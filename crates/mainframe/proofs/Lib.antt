@@ -6,7 +6,6 @@ mod WholeRunLemmas
 mod RunsLemmas
 mod StandLemmas
 mod DeterminedLemmas
-mod ListingsLemmas
 mod WelcomeLemmas
 mod RackLemmas
 mod RackLineLemmas

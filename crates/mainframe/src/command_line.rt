@@ -41,6 +41,8 @@ const PORT: u16 = 4880;
 pub enum Order {
     /// To answer standard input. The closing of slot 1 that has this number, from 1, fails.
     Run(Option<u32>),
+    /// The same with the scan program that this file lists.
+    Program(Option<u32>, String),
     /// To answer standard input by the cards of this file's rack.
     RunRack(String),
     /// To check a listing on standard input, against this file's rack or the simulated cards.
@@ -85,6 +87,8 @@ pub enum Unrun {
     Words(Error),
     /// The word behind `--address` is no address.
     Address,
+    /// There was no memory for the word behind `--program`.
+    Memory,
 }
 
 impl Unrun {
@@ -93,6 +97,7 @@ impl Unrun {
         match self {
             Unrun::Words(error) => error.kind(),
             Unrun::Address => ErrorKind::ValueValidation,
+            Unrun::Memory => ErrorKind::OutOfMemory,
         }
     }
 }
@@ -118,9 +123,15 @@ fn command_line<'a>(alloc: Global) -> Result<Command<'a>, AllocError> {
         .help("Let the K-th closing of slot 1 fail, K from 1 to 1000000")
         .value_parser(clap::value_parser!(u32).range(1..1_000_001))
         .conflicts_with("rack")?;
+    let program = Arg::new(alloc, "program")
+        .long("program")
+        .value_name("FILE")
+        .help("Begin with the listing in FILE as the scan program, on")
+        .conflicts_with("rack")?;
     let run = Command::new(alloc, "run")
         .about("Answer each line of standard input on standard output")
         .arg(fuse)?
+        .arg(program)?
         .arg(rack_word(alloc))?;
     let check = Command::new(alloc, "check")
         .about("Check a listing of scan code on standard input")
@@ -204,7 +215,7 @@ fn order_of(alloc: Global, matches: &ArgMatches) -> Result<Order, Unrun> {
         Some(("off", off)) => Ok(Order::Off(named(alloc, off, "rack")?)),
         Some((_, run)) => match file_of(alloc, run, "rack")? {
             Some(path) => Ok(Order::RunRack(path)),
-            None => Ok(Order::Run(run.get_one::<u32>("fuse"))),
+            None => run_of(alloc, run),
         },
         None => Ok(Order::Run(None)),
     }
@@ -224,6 +235,18 @@ fn file_of(alloc: Global, matches: &ArgMatches, word: &str) -> Result<Option<Str
 /// The file that this word names, which `clap` has seen to it is there.
 fn named(alloc: Global, matches: &ArgMatches, word: &str) -> Result<String, Unrun> {
     Ok(file_of(alloc, matches, word)?.unwrap_or(String::new(alloc)))
+}
+
+/// How the words of `run` ask for lines to be answered by the simulated cards.
+fn run_of(alloc: Global, matches: &ArgMatches) -> Result<Order, Unrun> {
+    let fuse = matches.get_one::<u32>("fuse");
+    let Some(path) = matches.get_str("program") else {
+        return Ok(Order::Run(fuse));
+    };
+    match String::from_str(alloc, path) {
+        Ok(path) => Ok(Order::Program(fuse, path)),
+        Err(_) => Err(Unrun::Memory),
+    }
 }
 
 /// How the words of `serve` ask for connections to be served.

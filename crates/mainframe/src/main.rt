@@ -1,11 +1,12 @@
 //! `mainframe`: a SCPI switch mainframe of simulated cards, driven by lines of text or over a network.
 //!
-//! `mainframe run [--fuse K]` answers each line of standard input on standard output. The crate's contract is that of
-//! `run::run_lines`: what is written is what the definition of a talk says of what was read, by the step relation of
-//! the core from its opening state. `mainframe check` says of a listing whether the program's cards may do its scan;
-//! its contract is that of `listing::check_listing`. `mainframe serve` serves sessions over TCP at the address and the
-//! port that `Serving::bound_at` tells; its contract is that of `serving::serve_on`: how many connections it takes; and
-//! of `sw_serve::serve_cards`: which cards come out of their slots at the end, each of them open.
+//! `mainframe run [--fuse K] [--program FILE]` answers each line of standard input on standard output. The crate's
+//! contract is that of `run::run_lines`: what is written is what the definition of a talk says of what was read, by the
+//! step relation of the core from its opening state. `mainframe check` says of a listing whether the program's cards
+//! may do its scan; its contract is that of `listing::check_listing`. `mainframe serve` serves sessions over TCP at the
+//! address and the port that `Serving::bound_at` tells; its contract is that of `serving::serve_on`: how many
+//! connections it takes; and of `sw_serve::serve_cards`: which cards come out of their slots at the end, each of them
+//! open.
 //!
 //! Nothing is promised of what a terminal or a network carries, nor of the texts of `clap`.
 #![tactic(auto)]
@@ -14,12 +15,11 @@ mod cards;
 mod command_line;
 mod descriptors;
 mod error_log;
-mod explanation;
 mod fault;
 mod host_link;
 mod laws;
 mod listing;
-mod misread;
+mod loading;
 mod rack_cards;
 mod rack_fault;
 mod rack_lines;
@@ -39,12 +39,12 @@ use descriptors::are_open;
 use error_log::ErrorLog;
 use fault::RunFault;
 use listing::{check_listing, program_layout};
+use loading::{LoadFault, program_of};
 use rack_cards::rack_layout;
 use racks::{HostCards, cards_in, ended, rack_in, switch_off, tell_rack};
-use run::{run_lines, run_over};
+use run::{run_lines, run_over, run_program_lines};
 use serving::{serve_by, serve_on};
 use std::alloc::{AllocError, Global};
-use std::io;
 use std::io::{BufReader, Input, Read};
 use std::net::{Net, SocketAddr, TcpListener, TcpStream};
 use std::os::fd::AsRawFd;
@@ -52,9 +52,12 @@ use std::process::ExitCode;
 use std::sync::Wait;
 use std::thread::Threads;
 use std::time::Clock;
+use std::{fs, io};
 use sw_card::{Meter, Relay};
+use sw_lex::BoxedProgram;
 use sw_serve::{Door, SlotCard};
 use sw_verify::Layout;
+use whole::read_whole;
 
 fn main(rt: HostRuntime) -> ExitCode {
     let Ok(words) = std::env::args(&rt) else {
@@ -66,6 +69,7 @@ fn main(rt: HostRuntime) -> ExitCode {
     };
     match parse_words(rt.alloc(), words.as_slice()) {
         Ok(Order::Run(fuse)) => answer_input(&rt, fuse),
+        Ok(Order::Program(fuse, path)) => answer_with_program(&rt, fuse, &path),
         Ok(Order::RunRack(path)) => run_rack(&rt, path.as_str()),
         Ok(Order::Check(None)) => check_input(&rt, program_layout(rt.alloc())),
         Ok(Order::Check(Some(path))) => match rack_in(&rt, rt.alloc(), path.as_str()) {
@@ -100,6 +104,40 @@ fn answer_input(rt: &HostRuntime, fuse: Option<u32>) -> ExitCode {
         Ok(()) => ExitCode::SUCCESS,
         Err(fault) => stopped(rt, fault),
     }
+}
+
+/// Answers standard input on standard output, with the scan program that a file lists. Where it lists none, standard
+/// error says why, and the status is 3.
+fn answer_with_program(rt: &HostRuntime, fuse: Option<u32>, path: &str) -> ExitCode {
+    let program = match program_in(rt, path) {
+        Ok(program) => program,
+        Err(LoadFault::File) => {
+            let _ = eprintln!(rt; "mainframe: cannot open the program's file");
+            return ExitCode::FAILURE;
+        }
+        Err(LoadFault::Run(fault)) => return stopped(rt, fault),
+        Err(LoadFault::Listing(why)) => {
+            let _ = eprintln!(rt; "{why}");
+            return ExitCode::from(3);
+        }
+    };
+    let Ok(mut reader) = BufReader::new(rt.alloc(), rt.reader()) else {
+        return stopped(rt, RunFault::Memory);
+    };
+    let mut writer = io::writer(rt);
+    match run_program_lines(rt.alloc(), &mut reader, &mut writer, fuse, program) {
+        Ok(()) => ExitCode::SUCCESS,
+        Err(fault) => stopped(rt, fault),
+    }
+}
+
+/// The scan program that a file lists.
+fn program_in(rt: &HostRuntime, path: &str) -> Result<BoxedProgram, LoadFault> {
+    let Ok(mut file) = fs::open(rt, path) else {
+        return Err(LoadFault::File);
+    };
+    let text = read_whole(rt.alloc(), &mut file)?;
+    program_of(rt.alloc(), &text)
 }
 
 /// Answers standard input on standard output, by the cards of this file's rack.
@@ -215,6 +253,7 @@ fn unrun(rt: &HostRuntime, why: &Unrun) -> ExitCode {
         Unrun::Words(error) => {
             let _ = error.print(rt);
         }
+        Unrun::Memory => {}
         Unrun::Address => {
             let _ = eprintln!(rt;
                 "error: --address <ADDRESS> takes an IPv4 or IPv6 address\n\nFor more information, try '--help'."

@@ -11,12 +11,14 @@ ghost use Rattle.mainframe.specs.Run.{AnsweredFrom, EndsFrom, Runs};
 
 use crate::cards::{first_card, in_slots, meter_card, second_card, third_card};
 use crate::fault::RunFault;
+use crate::loading::load;
 use crate::reading::{LineSource, read_line};
 use crate::writing::{gather, write_out};
 use std::alloc::Global;
 use std::io::{BufRead, Write};
 use sw_card::{Meter, Relay};
 use sw_core::{Sid, every_run_is_good};
+use sw_lex::BoxedProgram;
 use sw_serve::{SlotCard, desk_for_one};
 use sw_session::{CoreDesk, TURNS, Talker};
 
@@ -41,6 +43,27 @@ pub fn run_lines<Rd: BufRead, W: Write>(
     let meter: Box<dyn Meter + Send> = Box::new(alloc, meter_card())?;
     let cards = in_slots(alloc, first, second, third, meter)?;
     run_over(alloc, reader, writer, cards)
+}
+
+/// The same with this scan program on, before the first line.
+pub fn run_program_lines<Rd: BufRead, W: Write>(
+    alloc: Global,
+    reader: &mut Rd,
+    writer: &mut W,
+    fuse: Option<u32>,
+    program: BoxedProgram,
+) -> Result<(), RunFault> {
+    let first: Box<dyn Relay + Send> = Box::new(alloc, first_card(fuse))?;
+    let second: Box<dyn Relay + Send> = Box::new(alloc, second_card())?;
+    let third: Box<dyn Relay + Send> = Box::new(alloc, third_card())?;
+    let meter: Box<dyn Meter + Send> = Box::new(alloc, meter_card())?;
+    let cards = in_slots(alloc, first, second, third, meter)?;
+    let Ok((desk, sid)) = desk_for_one(alloc, cards) else {
+        return Err(RunFault::Memory);
+    };
+    let mut desk = desk;
+    load(&mut desk, sid, program)?;
+    run_on(alloc, reader, writer, &mut desk, sid)
 }
 
 /// Answers each line of the source as a program message, by a mainframe that takes these cards. The program's are never

@@ -1,8 +1,11 @@
 -- The cards themselves, by slot, and which of them are the very ones that were there.
-use Rattle.std.specs.Prelude.{◌≡◌, ◌≢◌, ℕ, ◌-◌, true, List, Option, None, Some, map, slice_set, ◌⊎◌, if◌then◌else◌}
+use Rattle.std.specs.Prelude.{◌≡◌, ◌≢◌, ℕ, ◌-◌, Bool, true, List, Option, None, Some, map, slice_set, ◌⊎◌}
+use Rattle.std.specs.Prelude.{if◌then◌else◌}
+use Rattle.std.specs.List.{list_all}
 use Rattle.std.proofs.Common.{inr}
 use Rattle.sw_base.specs.Layout.{Channel, slot_at}
 use Rattle.sw_card.specs.Account.{Account, is_meter, of_meter}
+use Rattle.sw_card.specs.Kind.{surety}
 use Rattle.sw_verify.specs.Channels.{is_among}
 use Rattle.sw_cage.specs.Cage.{CageSeen}
 use Rattle.sw_cage.specs.Work.{JobSeen, FinishedSeen}
@@ -50,3 +53,12 @@ KeepsMeters old (Job job) new = (slot_at old job.1.slot ≡ Some (job_card job))
     × (meters_of new ≡ slice_set (meters_of old) (job.1.slot - 1) None)
 KeepsMeters old Ended new = meters_of new ≡ meters_of old
 KeepsMeters old Fault new = meters_of new ≡ meters_of old
+
+-- whether what a slot holds is sure of its relays, a relay card by its own word; an empty slot has none
+abbrev pub option_sure : {R M : Type 0} → (R → Bool) → Option ((R ⊎ M) × Account) → Bool
+option_sure sure None = true
+option_sure sure (Some card) = surety sure card.0
+
+-- whether all cards are
+abbrev pub all_sure : {R M : Type 0} → (R → Bool) → Cards (R ⊎ M) → Bool
+all_sure sure cards = list_all (option_sure sure) cards

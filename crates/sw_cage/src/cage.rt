@@ -24,6 +24,7 @@ ghost use Rattle.sw_cage.specs.Outcome.{Advances, AdvancesPast, Counts, begun, w
 
 mod awaiting;
 mod layout;
+mod surety;
 
 use crate::job::{Finished, Ticket};
 use crate::refusal::{CloseRefusal, EjectRefusal, InstallRefusal};

@@ -16,7 +16,7 @@ use Rattle.sw_base.specs.declared.terms.ArmLayer.{ArmLayer}
 use Rattle.sw_code.specs.declared.code.Step.{Step}
 use Rattle.sw_code.specs.declared.code.Step.TheVariants as step
 use Rattle.sw_code.specs.declared.fault.ListFault.{ListFault}
-use Rattle.sw_code.specs.declared.fault.ListFault.TheVariants.{BadStep, BadNumber, TooLong}
+use Rattle.sw_code.specs.declared.fault.ListFault.TheVariants.{BadStep, BadNumber, TooLong, NoMemory}
 use Rattle.sw_code.specs.declared.fault.ListError.{ListError}
 use Rattle.sw_code.specs.declared.version.Version.{Version}
 use Rattle.sw_code.specs.Range.{Program, most_steps}
@@ -163,3 +163,10 @@ version_of_lines _ = None
 
 abbrev pub version_of : List ℕ → Option Version
 version_of text = version_of_lines (parts_at 10 text)
+
+-- the name of a fault, as `check` tells it
+abbrev pub fault_name : ListFault → List ℕ
+fault_name BadStep = codes "BadStep"
+fault_name BadNumber = codes "BadNumber"
+fault_name TooLong = codes "TooLong"
+fault_name NoMemory = codes "NoMemory"

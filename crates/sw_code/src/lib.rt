@@ -9,6 +9,7 @@
 mod code;
 mod emit;
 mod fault;
+mod misread;
 mod parts;
 mod print;
 mod read;
@@ -17,6 +18,7 @@ mod version;
 pub use code::{Code, STEPS, Step, one_unfolding};
 pub use emit::compile;
 pub use fault::{ListError, ListFault};
+pub use misread::explain_fault;
 pub use print::print_listing;
 pub use read::read_listing;
 pub use version::{Version, listing_version};

@@ -1,6 +1,6 @@
 -- What each command comes to: one row for each family of commands, and one for each query in what it tells.
-use Rattle.std.specs.Prelude.{ℕ, ◌≤◌, ◌==◌, ◌&&◌, Bool, true, false, List, [], length, decimal, map, Option}
-use Rattle.std.specs.Prelude.{if◌then◌else◌}
+use Rattle.std.specs.Prelude.{ℕ, ◌≤◌, ◌==◌, ◌&&◌, Bool, true, false, List, [], Option, Some, None, is_some, length, map}
+use Rattle.std.specs.Prelude.{codes, decimal, if◌then◌else◌}
 use Rattle.std.specs.List.{join_with_byte}
 use Rattle.sw_base.specs.Layout.{Channel}
 use Rattle.sw_base.specs.Limits.{most_slots, most_entries, most_points, longest_delay}
@@ -12,6 +12,8 @@ use Rattle.sw_base.specs.declared.error.ScpiError.TheVariants.{SettingsConflict,
 use Rattle.sw_base.specs.declared.terms.LayerName.{LayerName}
 use Rattle.sw_base.specs.declared.terms.LayerName.TheVariants as layer_name
 use Rattle.sw_base.specs.declared.terms.Source.{Source}
+use Rattle.sw_base.specs.declared.terms.StatusGroup.{StatusGroup}
+use Rattle.sw_base.specs.declared.terms.StatusGroup.TheVariants as group_name
 use Rattle.sw_channel.specs.Printing.{printed, printed_positions}
 use Rattle.sw_lex.specs.Help.{headers_text}
 use Rattle.sw_lex.specs.declared.command.Command.{Command}
@@ -25,9 +27,15 @@ use Rattle.sw_lex.specs.declared.command.Channels.{Channels}
 use Rattle.sw_lex.specs.declared.command.Time.{Time}
 use Rattle.sw_lex.specs.declared.command.Setting.{Setting}
 use Rattle.sw_lex.specs.declared.command.StatusSetting.{StatusSetting}
-use Rattle.sw_trigger.specs.Settings.{SettingsSeen, layer_of, with_layer, most_of, at_reset}
+use Rattle.sw_trigger.specs.Settings.{SettingsSeen, layer_of, with_layer, most_of}
 use Rattle.sw_trigger.specs.declared.layer.Layer.{Layer}
-use Rattle.sw_trigger.specs.Counts.{bound_of}
+use Rattle.sw_verify.specs.declared.setup.Setup.{Setup}
+use Rattle.sw_verify.specs.declared.setup.Loaded.{Loaded}
+use Rattle.sw_verify.specs.declared.setup.Loaded.TheVariants.{On, Nothing}
+use Rattle.sw_verify.specs.Setup.{setup_at_reset, bound_of, running, kept, switched, CanSwitch}
+use Rattle.sw_code.specs.Range.{Program}
+use Rattle.sw_code.specs.Listing.{listing_of}
+use Rattle.sw_lex.specs.Block.{block_of}
 use Rattle.sw_status.specs.Registers.{GroupSeen, event_taken, with_enable, with_ptr, with_ntr}
 use Rattle.sw_status.specs.StatusModel.{StatusSeen, byte_of, enabled, preset, popped, cleared}
 use Rattle.sw_status.specs.StatusModel.{registers_of, with_group}
@@ -38,9 +46,9 @@ use Rattle.sw_cage.specs.declared.taken.Happening.{Happening}
 use Rattle.sw_cage.specs.declared.taken.Happening.TheVariants.{Bus, Signal}
 use Rattle.sw_core.specs.Answers.{identity_text, version, oldest_entry, all_entries, source_word}
 use Rattle.sw_core.specs.Answers.{yes_or_no, as_asked}
-use Rattle.sw_core.specs.SlotTexts.{kind_text, has_relays, groups_text, known_state}
+use Rattle.sw_core.specs.SlotTexts.{kind_text, has_relays, groups_text, state_text}
 use Rattle.sw_core.specs.Panel.{Panel, with_cards, has_all}
-use Rattle.sw_core.specs.Registers.{card_fault_cleared}
+use Rattle.sw_core.specs.Registers.{card_fault_cleared, condition_told}
 use Rattle.sw_core.specs.Checking.{check_text}
 use Rattle.sw_core.specs.ScanChecking.{scan_check_text}
 
@@ -55,14 +63,16 @@ pub data Effect : Type 1 where
   -- it sets the status
   SetsStatus : (after : StatusSeen → StatusSeen) → Effect
   -- it changes the settings where they fit then, and is else refused by this error
-  SetsUp : (Fits : Type 0) → (error : ScpiError) → (after : SettingsSeen → SettingsSeen) → Effect
+  SetsUp : (Fits : Setup → Type 0) → (error : ScpiError) → (after : Setup → Setup) → Effect
   -- it closes channels, or opens them
   ClosesListed : (chans : List Channel) → Effect
   OpensListed : (chans : List Channel) → Effect
   -- it tells a text of hardware, and is refused by -241 where that isn't there
   TellsHardware : (there : Panel → Bool) → (text : Panel → List ℕ) → Effect
-  -- it tells a card's own word, whether it is sure of its relays; or the text that is known without asking the card
-  TellsSurety : (known : Panel → Option (List ℕ)) → Effect
+  -- it tells a text by what the cards that are asked say: whether they are sure of their relays
+  TellsSurety : (text : Panel → Bool → List ℕ) → Effect
+  -- it tells what is said of a listing
+  TellsListing : (listing : List ℕ) → Effect
   -- it leaves this state
   Changes : (after : Panel → Panel) → Effect
   -- it resets the mainframe
@@ -90,7 +100,7 @@ abbrev pub reset : Panel → Panel
 reset p = record p {
   cage = record (safe_state p.cage) { readings = [] };
   status = card_fault_cleared p.status;
-  settings = at_reset;
+  settings = setup_at_reset;
   opc_waits = false;
 }
 
@@ -111,6 +121,15 @@ with_time Time.Settling layer micros s = record s { settle_us = micros }
 
 -- ---- queries
 
+-- a program as a listing in a block; an empty one for none
+abbrev pub program_text : Option Program → List ℕ
+program_text None = codes "#10"
+program_text (Some code) = block_of (listing_of code)
+
+-- whether INITiate runs it
+abbrev pub programmed_text : Loaded → List ℕ
+programmed_text program = if is_some (running program) then decimal 1 else decimal 0
+
 -- What a query tells, where its message has answered before or not, which is when a message is available.
 abbrev pub query_text : Bool → PlainQuery → Panel → List ℕ
 query_text available PlainQuery.Identify p = identity_text
@@ -120,13 +139,15 @@ query_text available PlainQuery.StatusByte p = decimal (byte_of p.status availab
 query_text available PlainQuery.SelfTest p = decimal 0
 query_text available PlainQuery.InitiateContinuous p = decimal 0
 query_text available PlainQuery.CloseState p = printed (closed_list p.cage.cards)
-query_text available PlainQuery.Settling p = fixed 6 p.settings.settle_us
-query_text available PlainQuery.Scan p = printed_positions p.settings.list
-query_text available PlainQuery.ScanMeter p = decimal p.settings.meter
+query_text available PlainQuery.Settling p = fixed 6 p.settings.scan.settle_us
+query_text available PlainQuery.Scan p = printed_positions p.settings.scan.list
+query_text available PlainQuery.ScanMeter p = decimal p.settings.scan.meter
+query_text available PlainQuery.Program p = program_text (kept p.settings.program)
+query_text available PlainQuery.Programmed p = programmed_text p.settings.program
 query_text available PlainQuery.ErrorCount p = decimal (length p.status.errors)
 query_text available PlainQuery.Headers p = headers_text
 query_text available PlainQuery.Version p = version
-query_text available PlainQuery.Points p = decimal p.settings.points
+query_text available PlainQuery.Points p = decimal p.settings.scan.points
 query_text available PlainQuery.ActualPoints p = decimal (length p.cage.readings)
 query_text available PlainQuery.Bound p = decimal (bound_of p.settings)
 query_text available PlainQuery.ScanCheck p = scan_check_text p
@@ -149,6 +170,10 @@ group_text GroupQuery.Condition group = decimal group.condition
 group_text GroupQuery.Enable group = decimal group.enable
 group_text GroupQuery.PositiveTransition group = decimal group.ptr
 group_text GroupQuery.NegativeTransition group = decimal group.ntr
+
+-- what QUEStionable's condition is told as, by whether all cards are sure of their relays
+abbrev pub condition_text : Panel → Bool → List ℕ
+condition_text p sure = decimal (condition_told p.status.questionable.condition sure)
 
 -- what is read out of the status
 abbrev pub read_text : StatusRead → StatusSeen → List ℕ
@@ -174,30 +199,37 @@ with_bits (StatusSetting.Enable group bits) s = with_group s group (with_enable 
 with_bits (StatusSetting.PositiveTransition group bits) s = with_group s group (with_ptr (registers_of s group) bits)
 with_bits (StatusSetting.NegativeTransition group bits) s = with_group s group (with_ntr (registers_of s group) bits)
 
--- the values that a setting has
-abbrev pub Fits : Setting → Type 0
-Fits (Setting.Count layer n) = (1 ≤ n) × (n ≤ most_of layer)
-Fits (Setting.Source layer source) = Unit {0}
-Fits (Setting.Time Time.Delay layer micros) = micros ≤ longest_delay
-Fits (Setting.Time Time.Timer layer micros) = (1 ≤ micros) × (micros ≤ longest_delay)
-Fits (Setting.Time Time.Settling layer micros) = micros ≤ longest_delay
-Fits (Setting.Scan positions) = length positions ≤ most_entries
-Fits (Setting.ScanMeter slot) = (1 ≤ slot) × (slot ≤ most_slots)
-Fits (Setting.Points n) = (1 ≤ n) × (n ≤ most_points)
+-- the values that a setting has; a program can be switched on where there is one
+abbrev pub Fits : Setting → Setup → Type 0
+Fits (Setting.Count layer n) s = (1 ≤ n) × (n ≤ most_of layer)
+Fits (Setting.Source layer source) s = Unit {0}
+Fits (Setting.Time Time.Delay layer micros) s = micros ≤ longest_delay
+Fits (Setting.Time Time.Timer layer micros) s = (1 ≤ micros) × (micros ≤ longest_delay)
+Fits (Setting.Time Time.Settling layer micros) s = micros ≤ longest_delay
+Fits (Setting.Scan positions) s = length positions ≤ most_entries
+Fits (Setting.ScanMeter slot) s = (1 ≤ slot) × (slot ≤ most_slots)
+Fits (Setting.Points n) s = (1 ≤ n) × (n ≤ most_points)
+Fits (Setting.Program code) s = Unit {0}
+Fits (Setting.Programmed on) s = CanSwitch on s
+Fits Setting.NoProgram s = Unit {0}
 
 -- why any other value is refused
 abbrev pub misfit : Setting → ScpiError
 misfit (Setting.Scan positions) = TooMuchData
+misfit (Setting.Programmed on) = SettingsConflict
 misfit setting = DataOutOfRange
 
 -- the settings with this value
-abbrev pub with_value : Setting → SettingsSeen → SettingsSeen
-with_value (Setting.Count layer n) s = with_count layer n s
-with_value (Setting.Source layer source) s = with_source layer source s
-with_value (Setting.Time time layer micros) s = with_time time layer micros s
-with_value (Setting.Scan positions) s = record s { list = positions }
-with_value (Setting.ScanMeter slot) s = record s { meter = slot }
-with_value (Setting.Points n) s = record s { points = n }
+abbrev pub with_value : Setting → Setup → Setup
+with_value (Setting.Count layer n) s = record s { scan = with_count layer n s.scan }
+with_value (Setting.Source layer source) s = record s { scan = with_source layer source s.scan }
+with_value (Setting.Time time layer micros) s = record s { scan = with_time time layer micros s.scan }
+with_value (Setting.Scan positions) s = record s { scan = record s.scan { list = positions } }
+with_value (Setting.ScanMeter slot) s = record s { scan = record s.scan { meter = slot } }
+with_value (Setting.Points n) s = record s { scan = record s.scan { points = n } }
+with_value (Setting.Program code) s = record s { program = On code }
+with_value (Setting.Programmed on) s = switched on s
+with_value Setting.NoProgram s = record s { program = Nothing }
 
 -- ---- commands
 
@@ -251,7 +283,12 @@ channels_action Channels.CloseCheck chans = AtOnce (TellsText (check_text chans)
 abbrev pub slot_action : SlotQuery → ℕ → Action
 slot_action SlotQuery.Kind slot = AtOnce (TellsText (kind_text slot))
 slot_action SlotQuery.Groups slot = AtOnce (TellsHardware (has_relays slot) (groups_text slot))
-slot_action SlotQuery.State slot = AtOnce (TellsSurety (known_state slot))
+slot_action SlotQuery.State slot = AtOnce (TellsSurety (state_text slot))
+
+-- what a query of a status group comes to; QUEStionable's condition alone asks the cards
+abbrev pub group_action : GroupQuery → StatusGroup → Action
+group_action GroupQuery.Condition group_name.Questionable = AtOnce (TellsSurety condition_text)
+group_action query group = AtOnce (TellsText (λ p. group_text query (registers_of p.status group)))
 
 -- what a setting of scans comes to
 abbrev pub setting_action : Setting → Action
@@ -268,14 +305,14 @@ abbrev pub action_of : Bool → Command → Action
 action_of available (Command.Plain plain) = plain_action plain
 action_of available (Command.Query query) = AtOnce (TellsText (query_text available query))
 action_of available (Command.LayerQuery query layer) =
-    AtOnce (TellsText (λ p. layer_text query (layer_of p.settings layer)))
-action_of available (Command.GroupQuery query group) =
-    AtOnce (TellsText (λ p. group_text query (registers_of p.status group)))
+    AtOnce (TellsText (λ p. layer_text query (layer_of p.settings.scan layer)))
+action_of available (Command.GroupQuery query group) = group_action query group
 action_of available (Command.SlotQuery query slot) = slot_action query slot
 action_of available (Command.ReadOut read) = AtOnce (ReadsOut (read_text read) (without_read read))
 action_of available (Command.Signal layer) = AtOnce (Triggers (Signal layer) (ignored_at layer))
 action_of available (Command.Continuous on) = continuous_action on
 action_of available (Command.Channels ask chans) = channels_action ask chans
+action_of available (Command.ListingCheck listing) = AtOnce (TellsListing listing)
 action_of available (Command.Set setting) = setting_action setting
 action_of available (Command.SetStatus setting) = AtOnce (SetsStatus (with_bits setting))
 action_of available (Command.Macros ask) = AtOnce IsOfMacros

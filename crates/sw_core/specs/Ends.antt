@@ -4,12 +4,11 @@ use Rattle.std.specs.Prelude.{◌≡◌, ℕ, ◌+◌, ◌≤◌, Bool, true, fa
 use Rattle.std.specs.Prelude.{Option, None, Some, IfSome, ◌⊎◌, ◌||◌}
 use Rattle.std.specs.List.{AllByRecursion}
 use Rattle.sw_base.specs.Layout.{Channel}
-use Rattle.sw_trigger.specs.Agenda.{agenda}
-use Rattle.sw_trigger.specs.Counts.{awaiting, bound_of, readings_of, reads}
+use Rattle.sw_trigger.specs.Counts.{awaiting, reads}
+use Rattle.sw_verify.specs.Setup.{agenda, bound_of, readings_of, points_of, course_of}
 use Rattle.sw_verify.specs.declared.snapshot.Snapshot.{Snapshot}
 use Rattle.sw_verify.specs.Channels.{is_among}
 use Rattle.sw_verify.specs.Sound.{effect}
-use Rattle.sw_verify.specs.Course.{course_of}
 use Rattle.sw_cage.specs.Accounts.{is_closed}
 use Rattle.sw_lex.specs.declared.command.Command.TheVariants as command
 use Rattle.sw_lex.specs.declared.command.Plain.TheVariants as plain
@@ -80,7 +79,7 @@ pub record IsComplete (plan : Snapshot) (count : ℕ) (p : Panel) : Type 0 where
   -- its readings are those of its whole agenda
   pub readings : length p.cage.readings ≡ readings_of plan.settings
   -- there was room for them
-  pub room : length p.cage.readings ≤ plan.settings.points
+  pub room : length p.cage.readings ≤ points_of plan.settings
 
 -- The scan of a plan was ended before, by this ask: it ran at p, and none runs at q.
 pub record IsBrokenOff (plan : Snapshot) (p : Panel) (ask : AskSeen) (answer : AnswerSeen) (q : Panel) : Type 0 where
@@ -89,7 +88,7 @@ pub record IsBrokenOff (plan : Snapshot) (p : Panel) (ask : AskSeen) (answer : A
   -- its readings are those that it had made, and that of the meter which came back; *RST drops them
   pub readings : q.cage.readings ≡ readings_after ask answer p.cage.readings
   -- there was room for them
-  pub room : length q.cage.readings ≤ plan.settings.points
+  pub room : length q.cage.readings ≤ points_of plan.settings
 
 -- The scan of a plan runs before this event, and none runs after it: then it is complete, or one of four things ended
 -- it and it is broken off. Nothing else ends a scan.

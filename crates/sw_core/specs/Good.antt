@@ -4,7 +4,7 @@ use Rattle.sw_base.specs.Limits.{most_channels}
 use Rattle.sw_base.specs.Layout.{slot_at}
 use Rattle.sw_card.specs.Account.{Account, is_meter}
 use Rattle.sw_trigger.specs.Settings.{IsInRange}
-use Rattle.sw_verify.specs.Course.{course_of}
+use Rattle.sw_verify.specs.Setup.{course_of}
 use Rattle.sw_status.specs.StatusModel.{IsStatus}
 use Rattle.sw_cage.specs.Accounts.{Accounts}
 use Rattle.sw_cage.specs.Good.{IsGood}
@@ -32,7 +32,7 @@ pub record IsGoodPanel (p : Panel) : Type 0 where
   -- no relay card has more channels than a card may have
   pub few : IsFew p.cage.cards
   -- the settings are within their limits
-  pub range : IsInRange p.settings
+  pub range : IsInRange p.settings.scan
   -- a scan that runs goes by the settings: its items are their agenda
   pub settings : IfSome p.cage.scan (λ at. at.course ≡ course_of p.settings)
   -- the status is within its limits: the queue holds 32 errors at most

@@ -28,8 +28,8 @@ use Rattle.sw_core.specs.Seen.{WorkSeen, AskSeen, AskSession, AskEject, AskFinis
 use Rattle.sw_core.specs.Seen.{SaysFailed, failed_in, IsOwnAccount, with_meter}
 use Rattle.sw_core.specs.Taken.{took, is_happening, readings_after, IsUnmoved}
 use Rattle.sw_core.specs.Seats.{FindsKey}
-use Rattle.sw_core.specs.SlotTexts.{tells_surety}
 use Rattle.sw_core.specs.Step.{Step, Brings}
+use Rattle.sw_core.specs.LeftOpen.{leaves_open}
 
 -- one event: what was asked, what was answered, and the state after it
 pub record Event : Type 0 where
@@ -187,15 +187,10 @@ abbrev pub failures_after : Bool → Accounts → FailuresAfter
 failures_after false cards = None
 failures_after true cards = Some (map failures_in cards)
 
--- whether an answer is the word of a card that is sure of its relays, which is the card's own and no part of the state
-abbrev pub says_sure : AnswerSeen → Bool
-says_sure (SaysSession answer work) = tells_surety answer
-says_sure answer = false
-
 -- Where memory suffices, an ask has one answer and leaves one state for what comes of the cards: whether one failed in
--- the call, and if so, how often each has failed after it; and whether a card that is asked says that it is sure.
+-- the call, and if so, how often each has failed after it; and whether the cards that are asked say that they are sure.
 abbrev pub StepIsDetermined : Type 0
 StepIsDetermined = (p q q' : Panel) (ask : AskSeen) (f f' : Bool) (a a' : AnswerSeen)
     → Step p ask f a q → Step p ask f' a' q' → failures_after f q.cage.cards ≡ failures_after f' q'.cage.cards
-    → says_sure a ≡ says_sure a' → IsPlain a → IsPlain a' → KeepsKey p ask a → KeepsKey p ask a'
+    → leaves_open p ask a ≡ leaves_open p ask a' → IsPlain a → IsPlain a' → KeepsKey p ask a → KeepsKey p ask a'
     → (a ≡ a') × (q ≡ q')

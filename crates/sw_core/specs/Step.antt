@@ -14,13 +14,13 @@ use Rattle.sw_base.specs.declared.error.ScpiError.TheVariants.{SettingsConflict,
 use Rattle.sw_base.specs.declared.error.ScpiError.TheVariants.{HardwareError, OutOfMemory}
 use Rattle.sw_lex.specs.declared.command.Command.{Command}
 use Rattle.sw_lex.specs.declared.command.Plain.{Plain}
-use Rattle.sw_trigger.specs.Settings.{SettingsSeen}
+use Rattle.sw_verify.specs.declared.setup.Setup.{Setup}
+use Rattle.sw_verify.specs.Setup.{meter_of, course_of}
 use Rattle.sw_verify.specs.declared.snapshot.Snapshot.{Snapshot}
-use Rattle.sw_verify.specs.Check.{IsReady}
-use Rattle.sw_verify.specs.Course.{course_of}
+use Rattle.sw_verify.specs.Ready.{IsReady}
 use Rattle.sw_status.specs.StatusModel.{StatusSeen, pushed}
 use Rattle.sw_cage.specs.Accounts.{Accounts, layout_of, is_closed, all_open}
-use Rattle.sw_cage.specs.Change.{Sets, identity}
+use Rattle.sw_cage.specs.Change.{Sets, OneFailed, identity}
 use Rattle.sw_cage.specs.Channels.{closed_list}
 use Rattle.sw_cage.specs.Close.{CanClose, RefusesClose}
 use Rattle.sw_cage.specs.declared.refusal.CloseRefusal.TheVariants.{Absent, Clash}
@@ -39,10 +39,11 @@ use Rattle.sw_core.specs.declared.ask.SessionAnswer.TheVariants as Answer
 use Rattle.sw_core.specs.declared.ask.SessionAnswer.TheVariants.{Joined, Full, Stranger, Broken, Done, Refused, Hold}
 use Rattle.sw_core.specs.declared.ask.SessionAnswer.TheVariants.{Worn}
 use Rattle.sw_core.specs.Action.{Effect, TellsText, TellsReadings, ReadsOut, SetsStatus, SetsUp}
-use Rattle.sw_core.specs.Action.{ClosesListed, OpensListed, TellsHardware, TellsSurety, Changes}
+use Rattle.sw_core.specs.Action.{ClosesListed, OpensListed, TellsHardware, TellsSurety, TellsListing}
+use Rattle.sw_core.specs.Action.{Changes}
 use Rattle.sw_core.specs.Action.{Resets, Triggers, RefusesWith, IsOfMacros, Initiates, Action, AtOnce, BetweenScans}
 use Rattle.sw_core.specs.Action.{AfterScan, action_of, awaits_end, reset}
-use Rattle.sw_core.specs.SlotTexts.{surety_word}
+use Rattle.sw_core.specs.ListingCheck.{IsListingTold}
 use Rattle.sw_core.specs.declared.ask.Sid.{Sid}
 use Rattle.sw_hislip.specs.LockTable.{admits}
 use Rattle.sw_core.specs.Sessions.{SessionsSeen, IsJoined, IsLeastFree, is_clearing, fresh_seat, with_seat}
@@ -54,9 +55,10 @@ use Rattle.sw_core.specs.Seen.{WorkSeen, Measures, Pauses, AskSeen, AskSession, 
 use Rattle.sw_core.specs.Seen.{AskElapsed, AskFinished, AnswerSeen, SaysSession, SaysInstalled, SaysNotInstalled}
 use Rattle.sw_core.specs.Seen.{SaysEjected, SaysNotEjected, SaysTaken, SaysMissed, SaysFailed, SaysBack, SaysWorn}
 
--- the same cards but for their counts of failures, and every relay open
+-- the same cards but for one's count of failures, and every relay open
 pub record IsFailSafe (old new : Accounts) : Type 0 where
   pub cards : map identity new ≡ map identity old
+  pub failed : OneFailed old new
   pub none : (c : Channel) → is_closed new c ≡ false
 
 -- A card failed: every relay is open, and QUEStionable tells of it (own).
@@ -96,15 +98,20 @@ StepHardware p there text f (Refused HardwareMissing) q = (f ≡ false) × (ther
 StepHardware p there text f (Refused OutOfMemory) q = (f ≡ false) × (there ≡ true) × (q ≡ p)
 StepHardware p there text f answer q = ⊥
 
--- the text that is known, or else either word of a card
-abbrev pub IsSurety : Option (List ℕ) → List ℕ → Type 0
-IsSurety (Some text) t = t ≡ text
-IsSurety None t = (sure : Bool) × (t ≡ surety_word sure)
+-- the text of sure cards, or of cards one of which is not
+abbrev pub IsSurety : (Bool → List ℕ) → List ℕ → Type 0
+IsSurety text t = (sure : Bool) × (t ≡ text sure)
 
--- a query that is answered by the text that is known, or by a card's own word
-abbrev pub StepSurety : Panel → Option (List ℕ) → Bool → SessionAnswer → Panel → Type 0
-StepSurety p known f (Done (Some t)) q = (f ≡ false) × IsSurety known t × (q ≡ p)
-StepSurety p known f answer q = ⊥
+-- a query that is answered by what the cards say: whether those that are asked are sure
+abbrev pub StepSurety : Panel → (Bool → List ℕ) → Bool → SessionAnswer → Panel → Type 0
+StepSurety p text f (Done (Some t)) q = (f ≡ false) × IsSurety text t × (q ≡ p)
+StepSurety p text f answer q = ⊥
+
+-- a query that is answered by what is said of a listing; without memory for it, it changes nothing
+abbrev pub StepListing : Panel → List ℕ → Bool → SessionAnswer → Panel → Type 0
+StepListing p listing f (Done (Some t)) q = (f ≡ false) × IsListingTold p listing t × (q ≡ p)
+StepListing p listing f (Refused OutOfMemory) q = (f ≡ false) × (q ≡ p)
+StepListing p listing f answer q = ⊥
 
 -- a query that is answered by this text and leaves this status; without memory for the text it changes nothing
 abbrev pub StepText : Panel → List ℕ → StatusSeen → Bool → SessionAnswer → Panel → Type 0
@@ -123,7 +130,7 @@ TakesSetting (Ok done) answer = answer ≡ Done None
 TakesSetting (Err e) answer = answer ≡ Refused e
 
 -- a setting that is taken where it fits, else refused by this error
-abbrev pub StepSetting : Panel → Type 0 → ScpiError → SettingsSeen → Bool → SessionAnswer → Panel → Type 0
+abbrev pub StepSetting : Panel → Type 0 → ScpiError → Setup → Bool → SessionAnswer → Panel → Type 0
 StepSetting p Fits error setup f (Done None) q = (f ≡ false) × Fits × (q ≡ record p { settings = setup })
 StepSetting p Fits error setup f (Refused e) q = (f ≡ false) × (Fits → ⊥) × (e ≡ error) × (q ≡ p)
 StepSetting p Fits error setup f answer q = ⊥
@@ -180,11 +187,12 @@ StepAlone (TellsText text) p f answer q = StepText p (text p) p.status f answer 
 StepAlone (TellsReadings readings) p f answer q = StepReadings (readings p) p f answer q
 StepAlone (ReadsOut text after) p f answer q = StepText p (text p.status) (after p.status) f answer q
 StepAlone (SetsStatus after) p f answer q = StepDone (record p { status = after p.status }) f answer q
-StepAlone (SetsUp Fits error after) p f answer q = StepSetting p Fits error (after p.settings) f answer q
+StepAlone (SetsUp Fits error after) p f answer q = StepSetting p (Fits p.settings) error (after p.settings) f answer q
 StepAlone (ClosesListed chans) p f answer q = StepClose p chans f answer q
 StepAlone (OpensListed chans) p f answer q = StepOpen p chans f answer q
 StepAlone (TellsHardware there text) p f answer q = StepHardware p (there p) (text p) f answer q
-StepAlone (TellsSurety known) p f answer q = StepSurety p (known p) f answer q
+StepAlone (TellsSurety text) p f answer q = StepSurety p (text p) f answer q
+StepAlone (TellsListing listing) p f answer q = StepListing p listing f answer q
 StepAlone (Changes after) p f answer q = StepDone (after p) f answer q
 StepAlone Resets p f answer q = StepDone (reset p) f answer q
 StepAlone (RefusesWith error) p f answer q = StepRefused p error f answer q
@@ -214,15 +222,15 @@ StepAction (AfterScan effect) p ask f answer work q =
 -- no scan may begin now, for this error: the first that applies
 abbrev pub RefusesScan : Panel → ScpiError → Type 0
 RefusesScan p InitIgnored = is_running p ≡ true
-RefusesScan p SettingsConflict = (is_running p ≡ false) × (is_some (slot_at p.cage.out p.settings.meter) ≡ true)
+RefusesScan p SettingsConflict = (is_running p ≡ false) × (is_some (slot_at p.cage.out (meter_of p.settings)) ≡ true)
 RefusesScan p SystemError =
-    (is_running p ≡ false) × (is_some (slot_at p.cage.out p.settings.meter) ≡ false) × (p.cage.number ≡ last_number)
+    (is_running p ≡ false) × (is_some (slot_at p.cage.out (meter_of p.settings)) ≡ false) × (p.cage.number ≡ last_number)
 RefusesScan p error = ⊥
 
 -- a scan may begin: none runs, its meter is in, and it can be numbered
 pub record MayScan (p : Panel) : Type 0 where
   pub idle : is_running p ≡ false
-  pub home : is_some (slot_at p.cage.out p.settings.meter) ≡ false
+  pub home : is_some (slot_at p.cage.out (meter_of p.settings)) ≡ false
   pub numbered : p.cage.number < last_number
 
 -- what a scan would begin from

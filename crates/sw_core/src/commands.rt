@@ -43,6 +43,7 @@ impl<R: Relay, M: Meter> Core<R, M> {
             Command::Continuous(true) => conflict(),
             Command::Continuous(false) => SessionAnswer::Done(None),
             Command::Channels(ask, chans) => self.channels(alloc, ask, chans.as_slice()),
+            Command::ListingCheck(listing) => self.check_listing(alloc, listing.as_slice()),
             Command::Set(setting) => self.set(setting),
             Command::SetStatus(setting) => self.set_status(setting),
             Command::Macros(_) | Command::Macro(_) => undefined(),
@@ -104,21 +105,32 @@ impl<R: Relay, M: Meter> Core<R, M> {
             return conflict();
         }
         match setting {
-            Setting::Count(layer, n) => taken(self.settings.set_count(layer, n)),
+            Setting::Count(layer, n) => taken(self.settings.scan.set_count(layer, n)),
             Setting::Source(layer, source) => {
-                self.settings.set_source(layer, source);
+                self.settings.scan.set_source(layer, source);
                 SessionAnswer::Done(None)
             }
             Setting::Time(Time::Delay, layer, micros) => {
-                taken(self.settings.set_delay(layer, micros))
+                taken(self.settings.scan.set_delay(layer, micros))
             }
             Setting::Time(Time::Timer, layer, micros) => {
-                taken(self.settings.set_timer(layer, micros))
+                taken(self.settings.scan.set_timer(layer, micros))
             }
-            Setting::Time(Time::Settling, _, micros) => taken(self.settings.set_settling(micros)),
-            Setting::Scan(positions) => taken(self.settings.set_list(positions.into_vec())),
-            Setting::ScanMeter(slot) => taken(self.settings.set_meter(slot)),
-            Setting::Points(n) => taken(self.settings.set_points(n)),
+            Setting::Time(Time::Settling, _, micros) => {
+                taken(self.settings.scan.set_settling(micros))
+            }
+            Setting::Scan(positions) => taken(self.settings.scan.set_list(positions.into_vec())),
+            Setting::ScanMeter(slot) => taken(self.settings.scan.set_meter(slot)),
+            Setting::Points(n) => taken(self.settings.scan.set_points(n)),
+            Setting::Program(program) => {
+                self.settings.load(program.into_inner());
+                SessionAnswer::Done(None)
+            }
+            Setting::Programmed(on) => taken(self.settings.switch(on)),
+            Setting::NoProgram => {
+                self.settings.unload();
+                SessionAnswer::Done(None)
+            }
         }
     }
 }

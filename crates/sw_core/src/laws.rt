@@ -32,7 +32,7 @@ pub fn relays_obey()
 {}
 
 /// Where memory suffices, an ask has one answer and leaves one state for what comes of the cards: whether one failed in
-/// the call, and if so, how often each has failed after it; and whether a card that is asked says that it is sure.
+/// the call, and if so, how often each has failed after it; and whether the cards that are asked say that they are sure.
 pub fn step_is_determined()
     ensures { StepIsDetermined }
 {}

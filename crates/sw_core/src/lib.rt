@@ -18,6 +18,7 @@ mod checking;
 mod commands;
 mod event;
 mod laws;
+mod listing_check;
 mod queries;
 mod readings_text;
 mod registers;

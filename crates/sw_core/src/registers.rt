@@ -3,9 +3,10 @@
 ghost use Rattle.std.specs.Prelude.{◌≡◌, [], Bool, decimal, if◌then◌else◌};
 ghost use Rattle.sw_status.specs.Registers.{event_taken};
 ghost use Rattle.sw_status.specs.StatusModel.{popped, cleared, preset, registers_of, with_group};
+ghost use Rattle.sw_cage.specs.Cards.{all_sure};
 ghost use Rattle.sw_core.specs.Action.{with_bits, read_text, without_read};
 ghost use Rattle.sw_core.specs.Answers.{oldest_entry, all_entries};
-ghost use Rattle.sw_core.specs.Registers.{card_fault_reported, card_fault_cleared};
+ghost use Rattle.sw_core.specs.Registers.{card_fault_reported, card_fault_cleared, condition_told};
 ghost use Rattle.sw_core.specs.Step.{StepText, StepDone};
 
 use crate::answer_text::AnswerText;
@@ -14,18 +15,19 @@ use crate::state::Core;
 use crate::text::{all_entries, answered};
 use std::alloc::Global;
 use sw_base::{ScpiError, StatusGroup};
+use sw_cage::Cage;
 use sw_card::{Meter, Relay};
 use sw_lex::{StatusRead, StatusSetting};
 use sw_status::Status;
 
-/// The condition bit of a card's failure (own).
-const CARD_FAILED: u16 = 1 << 9;
+/// The condition bit of a card that failed, or that is unsure of its relays (own).
+const CARD_FAULT: u16 = 1 << 9;
 
 /// Tells QUEStionable that a card failed.
 pub fn report_card_fault(status: &mut Status)
     ensures { status.new ≡ card_fault_reported status.old }
 {
-    status.set_condition(StatusGroup::Questionable, CARD_FAILED);
+    status.set_condition(StatusGroup::Questionable, CARD_FAULT);
 }
 
 /// Tells QUEStionable that no failure stands any more.
@@ -43,6 +45,18 @@ pub fn set_card_fault(status: &mut Status, failed: bool)
         report_card_fault(status);
     } else {
         clear_card_fault(status);
+    }
+}
+
+/// The condition of QUEStionable as it is told, where these bits are its register: with bit 9 too while a card of the
+/// cage is unsure of its relays.
+pub(crate) fn condition_told<R: Relay, M: Meter>(bits: u16, cage: &Cage<R, M>) -> u16
+    ensures { result ≡ condition_told bits (all_sure R.sure cage.now.cards) }
+{
+    if cage.is_sure() {
+        bits
+    } else {
+        bits | CARD_FAULT
     }
 }
 

@@ -40,7 +40,10 @@ impl<R: Relay, M: Meter> Core<R, M> {
         if self.cage.is_running() {
             return quoted(alloc, b"a scan runs", &[]);
         }
-        let slot = self.settings.meter();
+        if self.settings.is_programmed() {
+            return quoted(alloc, b"a program is on", &[]);
+        }
+        let slot = self.settings.scan.meter();
         if self.cage.has_out(slot) {
             let words = format!(in alloc; "the meter of slot {slot} is out")?;
             return quoted(alloc, words.as_bytes(), &[]);
@@ -50,7 +53,7 @@ impl<R: Relay, M: Meter> Core<R, M> {
         }
         let layout = self.cage.layout(alloc)?;
         let closed = self.cage.closed_chans(alloc)?;
-        ready_text(alloc, &self.settings, &layout, closed)
+        ready_text(alloc, &self.settings.scan, &layout, closed)
     }
 }
 
@@ -62,11 +65,7 @@ fn ready_text(
     layout: &Layout,
     closed: Vec<Chan>,
 ) -> Result<Sequence<u8>, ScpiError>
-    ensures { IfOk result (λ text. text ≡ ready_text (record {
-      settings = settings.now;
-      layout = layout.now;
-      closed = closed.items;
-    })) }
+    ensures { IfOk result (λ text. text ≡ ready_text settings.now layout.now closed.items) }
 {
     if settings.list().is_empty() {
         return refused_text(alloc, Refusal::EmptyList, "nothing is listed (ROUTe:SCAN)");

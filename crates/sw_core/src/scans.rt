@@ -4,7 +4,7 @@ ghost use Rattle.std.specs.Prelude.{◌≡◌, Bool, IfOk, IfSome, IfNone, None,
 ghost use Rattle.sw_core.specs.Registers.{card_fault_reported};
 ghost use Rattle.sw_cage.specs.Change.{any_failed};
 ghost use Rattle.sw_cage.specs.TakenSeen.{taken_seen, tells_fault};
-ghost use Rattle.sw_verify.specs.Check.{IsReady};
+ghost use Rattle.sw_verify.specs.Ready.{IsReady};
 ghost use Rattle.sw_core.specs.Event.{concluded};
 ghost use Rattle.sw_core.specs.Seen.{work_seen, answer_seen, failed_in, AskElapsed, AskFinished, HandsBack};
 ghost use Rattle.sw_core.specs.Seen.{IsOwnAccount};

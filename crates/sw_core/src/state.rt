@@ -32,7 +32,7 @@ use sw_cage::{Cage, Finished, Happening};
 use sw_card::{Card, Meter, Relay};
 use sw_lex::{Command, Plain};
 use sw_status::Status;
-use sw_trigger::Settings;
+use sw_verify::Setup;
 
 /// The mainframe: its cage of cards and its scan, its sessions, its status and the settings of its scans. Contracts see
 /// its panel.
@@ -41,7 +41,7 @@ pub struct Core<R: Relay, M: Meter> {
     pub(crate) cage: Cage<R, M>,
     pub(crate) sessions: Sessions,
     pub(crate) status: Status,
-    pub(crate) settings: Settings,
+    pub(crate) settings: Setup,
     /// Whether `*OPC` waits for the end of the scan.
     pub(crate) opc_waits: bool,
     /// How many events there were.
@@ -77,7 +77,7 @@ impl<R: Relay, M: Meter> Core<R, M> {
             cage: Cage::with_number(alloc, scans)?,
             sessions: Sessions::new(),
             status: Status::new(alloc)?,
-            settings: Settings::new(alloc),
+            settings: Setup::new(alloc),
             opc_waits: false,
             events,
         })

@@ -7,6 +7,7 @@ use std::fmt::Debug;
 use std::marker::Model;
 use sw_base::{Chan, LayerName, Sequence, Source, StatusGroup};
 use sw_channel::Position;
+use sw_verify::ScanProgram;
 
 /// What a unit asks for, with its data read (SCPI-1999; IEEE 488.2, 10).
 ///
@@ -31,6 +32,8 @@ pub enum Command {
     Continuous(bool),
     /// A command with these channels, in this order.
     Channels(Channels, Sequence<Chan>),
+    /// `DIAGnostic:SCAN:CHECk?` with a block: the bytes of a listing.
+    ListingCheck(Sequence<u8>),
     /// A setting of scans.
     Set(Setting),
     /// A setting of the status.
@@ -96,6 +99,10 @@ pub enum PlainQuery {
     Scan,
     /// `ROUTe:SCAN:METer?`
     ScanMeter,
+    /// `ROUTe:SCAN:PROGram[:DEFine]?`
+    Program,
+    /// `ROUTe:SCAN:PROGram:STATe?`
+    Programmed,
     /// `SYSTem:ERRor:COUNt?`
     ErrorCount,
     /// `SYSTem:HELP:HEADers?`
@@ -108,7 +115,7 @@ pub enum PlainQuery {
     ActualPoints,
     /// `DIAGnostic:SCAN:BOUNd?`
     Bound,
-    /// `DIAGnostic:SCAN:CHECk?`
+    /// `DIAGnostic:SCAN:CHECk?` alone
     ScanCheck,
 }
 
@@ -201,6 +208,43 @@ pub enum Setting {
     ScanMeter(u8),
     /// `TRACe:POINts`: how many readings are kept, 1 to 100,000.
     Points(u32),
+    /// `ROUTe:SCAN:PROGram[:DEFine]`: what INITiate runs in place of what the other settings say.
+    Program(BoxedProgram),
+    /// `ROUTe:SCAN:PROGram:STATe`: whether INITiate runs the program.
+    Programmed(bool),
+    /// `ROUTe:SCAN:PROGram:DELete`
+    NoProgram,
+}
+
+/// A program in a box, so that no other command is as large. Contracts see its code.
+#[derive(Debug, Drop)]
+pub struct BoxedProgram {
+    kept: Box<ScanProgram>,
+}
+
+impl Model for BoxedProgram {
+    ghost use Rattle.sw_code.specs.Range.{Program};
+
+    ghost Value = { Program };
+
+    ghost view = { λ b. b.kept.value };
+}
+
+impl BoxedProgram {
+    /// Puts a program into a box.
+    pub fn new(alloc: Global, program: ScanProgram) -> Result<BoxedProgram, AllocError>
+        ensures { IfOk result (λ b. b ≡ program) }
+    {
+        let kept = Box::new(alloc, program)?;
+        Ok(BoxedProgram { kept })
+    }
+
+    /// The program, out of its box.
+    pub fn into_inner(self) -> ScanProgram
+        ensures { result ≡ self }
+    {
+        Box::into_inner(self.kept)
+    }
 }
 
 /// The settings of the status, each with its bits.

@@ -1,5 +1,5 @@
 -- A talk leaves no choice, and a message that comes in parts is one message.
-use Rattle.std.specs.Prelude.{◌≡◌, ◌≢◌, ℕ, ◌≤◌, List, [], ◌∷◌, ◌++◌, length, replicate, true, Option, Some, None}
+use Rattle.std.specs.Prelude.{◌≡◌, ◌≢◌, ℕ, ◌≤◌, List, [], ◌∷◌, ◌++◌, length, replicate, true, false, Option, Some, None}
 use Rattle.std.specs.Prelude.{Bool, Result}
 use Rattle.std.specs.Prelude.{◌↔◌}
 use Rattle.std.specs.List.{AllByRecursion, concat}
@@ -12,8 +12,8 @@ use Rattle.sw_base.specs.declared.reading.Reading.{Reading}
 use Rattle.sw_card.specs.declared.board.CardFault.{CardFault}
 use Rattle.sw_core.specs.declared.ask.SessionAnswer.{SessionAnswer}
 use Rattle.sw_core.specs.Panel.{Panel}
-use Rattle.sw_core.specs.Run.{IsPlain, KeepsKey, FailuresAfter, failures_after, says_sure}
-use Rattle.sw_core.specs.SlotTexts.{tells_surety}
+use Rattle.sw_core.specs.Run.{IsPlain, KeepsKey, FailuresAfter, failures_after}
+use Rattle.sw_core.specs.LeftOpen.{LeftOpen, Determined, answer_leaves}
 use Rattle.sw_core.specs.Seen.{WorkSeen, AskSeen, AskSession, AskFinished, SaysSession}
 use Rattle.sw_macro.specs.Table.{Table}
 use Rattle.sw_session.specs.CoreDesk.{DeskSeen, but_room, Carried, PassesBy, CorePasses, WaitsOut, last_wait}
@@ -88,27 +88,28 @@ carried_of old [] new l = []
 carried_of old (e ∷ trace) new (mid, passes, l) = passes.0 ∷ carried_of mid trace new l
 
 -- What is up to the world: what a measurement came to, and what came of the cards in a call of the mainframe: their
--- failures, and whether one that was asked said that it is sure of its relays.
+-- failures, and what else the state leaves open of its answer.
 pub data Outcome : Type 0 where
   Measured : (outcome : Result Reading CardFault) → Outcome
-  Cards : (failures : FailuresAfter) → (sure : Bool) → Outcome
+  Cards : (failures : FailuresAfter) → (left : LeftOpen) → Outcome
 
 -- what was measured, if it is a measurement that is told
 abbrev pub measured : AskSeen → List Outcome
 measured (AskFinished done) = Measured done.outcome ∷ []
 measured ask = []
 
--- the outcomes of these pieces, in order
+-- the outcomes of these pieces, in order; the answers to them are determined
 abbrev pub outcomes_in : List Carried → List Outcome
 outcomes_in [] = []
 outcomes_in (c ∷ carried) =
-    measured c.ask ++ Cards (failures_after c.failed c.after.cage.cards) (says_sure c.answer) ∷ outcomes_in carried
+    measured c.ask ++ Cards (failures_after c.failed c.after.cage.cards) Determined ∷ outcomes_in carried
 
 -- the outcomes of a call of the desk: of the ask itself, and of the pieces that were carried out
 abbrev pub outcomes_by : (carried : List Carried) (old : DeskSeen) (entry : Entry) (new : DeskSeen)
     → PassesBy carried old entry new → List Outcome
 outcomes_by carried old (Asked ask answer) new passes =
-    Cards (failures_after passes.failed passes.after.cage.cards) (tells_surety answer) ∷ outcomes_in carried
+    Cards (failures_after passes.failed passes.after.cage.cards) (answer_leaves old.panel ask answer)
+    ∷ outcomes_in carried
 outcomes_by carried old entry new passes = outcomes_in carried
 
 -- the outcomes of all these calls

@@ -13,10 +13,11 @@ use Rattle.sw_lex.specs.declared.command.Plain.{Plain}
 use Rattle.sw_lex.specs.Unit.{UnitSeen}
 use Rattle.sw_lex.specs.Meaning.{Nodes, Resolves}
 use Rattle.sw_macro.specs.Table.{Table}
-use Rattle.sw_trigger.specs.Counts.{readings_of}
 use Rattle.sw_macro.specs.Expansion.{calls, Expands}
 use Rattle.sw_verify.specs.declared.refusal.Refusal.{Refusal}
-use Rattle.sw_verify.specs.Check.{IsReady, IsRefusedScan, error_of}
+use Rattle.sw_verify.specs.Check.{error_of}
+use Rattle.sw_verify.specs.Setup.{readings_of}
+use Rattle.sw_verify.specs.Ready.{IsReady, IsRefusedScan}
 use Rattle.sw_core.specs.Action.{Effect, IsOfMacros, Initiates, Resets, ReadsOut, Action, AtOnce, BetweenScans, AfterScan}
 use Rattle.sw_core.specs.Action.{action_of}
 use Rattle.sw_core.specs.Event.{next_number}

@@ -5,7 +5,7 @@ ghost use Rattle.std.specs.Prelude.{ℕ, Bool};
 use crate::asks::{
     does, eject, fit, has_closed, install, joined, refused_card, refuses, refuses_eject, tells,
 };
-use crate::boxes::{Relays, closed, three, voltmeter};
+use crate::boxes::{Relays, closed, mux, three, voltmeter};
 use std::alloc::{AllocError, Global};
 use std::sync::Arc;
 use std::sync::atomic::{AtomicU64, Ordering};
@@ -229,6 +229,87 @@ fn a_failure_opens_every_card(rt: HostRuntime) -> Result<(), Fail> {
     let cards = recorded(rt.alloc(), &records)?;
     let meter = voltmeter(rt.alloc())?;
     assert!(rt; blows_at_rest(rt.alloc(), cards, meter, &records));
+    Ok(())
+}
+
+/// A driver that is unsure after its first cut, sure after the next one, and so on.
+#[derive(Drop)]
+struct Doubter {
+    coils: SimDriver,
+    is_sure: bool,
+}
+
+impl Driver for Doubter {
+    ghost driven = { λ d k. ⟦<SimDriver as Driver>⟧.driven d.coils k };
+
+    ghost sure = { λ d. d.is_sure };
+
+    fn drive(&mut self, ch: u8, on: bool) -> Result<(), CardFault> {
+        self.coils.drive(ch, on)
+    }
+
+    fn is_sure(&self) -> bool {
+        self.is_sure
+    }
+
+    fn cut(&mut self) {
+        self.is_sure = !self.is_sure;
+        self.coils.cut();
+    }
+}
+
+/// Two multiplexers, and a matrix for slot 3 whose driver doubts.
+fn doubtful(alloc: Global) -> Result<(Relays, Relays, Relays), AllocError> {
+    let doubter = Doubter {
+        coils: SimDriver::new(),
+        is_sure: true,
+    };
+    let last: Relays = Box::new(alloc, Matrix::new(3, 8, doubter))?;
+    Ok((mux(alloc, 1, 1)?, mux(alloc, 2, 1)?, last))
+}
+
+/// Whether QUEStionable's condition is this while slot 3 says so of its relays; all else that the groups tell is 0.
+fn is_told<R: Relay, M: Meter>(
+    alloc: Global,
+    core: &mut Core<R, M>,
+    sid: Sid,
+    condition: &[u8],
+    word: &[u8],
+) -> bool {
+    tells(alloc, core, sid, b"STAT:QUES:COND?", condition)
+        && tells(alloc, core, sid, b"SYST:CTYP:STAT? 3", word)
+        && tells(alloc, core, sid, b"STAT:OPER:COND?", b"0")
+        && tells(alloc, core, sid, b"STAT:QUES?", b"0")
+        && tells(alloc, core, sid, b"STAT:QUES:ENAB?", b"0")
+}
+
+/// Whether the condition follows the card of slot 3 while each cut turns what it says.
+fn doubts<R: Relay, M: Meter>(alloc: Global, core: &mut Core<R, M>, sid: Sid) -> bool {
+    is_told(alloc, core, sid, b"0", b"SURE")
+        && does(alloc, core, sid, b"ROUT:OPEN:ALL")
+        && is_told(alloc, core, sid, b"512", b"UNS")
+        && does(alloc, core, sid, b"ROUT:OPEN:ALL")
+        && is_told(alloc, core, sid, b"0", b"SURE")
+}
+
+/// The same over a core that is at rest.
+fn doubts_at_rest<R: Relay, M: Meter>(alloc: Global, cards: (R, R, R), meter: M) -> bool {
+    let Ok(mut core) = Core::new(alloc) else {
+        return false;
+    };
+    let is_so = match fit(alloc, &mut core, cards, meter) {
+        Some(sid) => doubts(alloc, &mut core, sid),
+        None => false,
+    };
+    drop(core);
+    is_so
+}
+
+#[test]
+fn the_condition_tells_of_an_unsure_card(rt: HostRuntime) -> Result<(), Fail> {
+    let cards = doubtful(rt.alloc())?;
+    let meter = voltmeter(rt.alloc())?;
+    assert!(rt; doubts_at_rest(rt.alloc(), cards, meter));
     Ok(())
 }
 

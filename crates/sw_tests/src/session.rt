@@ -12,7 +12,7 @@ use sw_kinds::{Mux, SimDriver, SimSource, Volt};
 use sw_lex::{Command, PlainQuery};
 use sw_session::{CoreDesk, Desk, Talker, View, Wake};
 use sw_trigger::Settings;
-use sw_verify::{BoxedSnapshot, Layout, Slot, Snapshot};
+use sw_verify::{BoxedSnapshot, Layout, Loaded, Setup, Slot, Snapshot};
 
 /// A desk that identifies itself, finds no hardware for anything else, and holds the first units.
 #[derive(Drop)]
@@ -244,7 +244,10 @@ fn snapshot(alloc: Global, list: &[Chan]) -> Result<BoxedSnapshot, Fail> {
     slots.push(Slot::empty())?;
     slots.push(Slot::meter())?;
     let snapshot = Snapshot {
-        settings,
+        settings: Setup {
+            scan: settings,
+            program: Loaded::Nothing,
+        },
         layout: Layout::new(slots),
         closed: Sequence::new(Vec::new(alloc)),
     };

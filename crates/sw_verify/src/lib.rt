@@ -7,7 +7,8 @@
 //! `laws`.
 //!
 //! `verify` judges scan code: what it accepts unfolds to items that are sound here, with the counts that it
-//! tells; else it gives the first refusal that applies. It visits each step once.
+//! tells; else it gives the first refusal that applies. It visits each step once. `judge_listing` says so of a text, and
+//! why not in plain words, of which nothing is promised.
 //!
 //! A `Plan` is a snapshot that passed the check, with its code, which was verified and unfolds to the agenda of the
 //! settings. It is judged once, by `verify`; the check tells why where that refuses, and beyond the check only want of
@@ -18,17 +19,23 @@
 #![tactic(auto)]
 
 mod course;
+mod explanation;
 pub mod laws;
 mod layout;
 mod ledger;
+mod listing;
 mod look;
 mod marks;
 mod nest;
+mod pace;
 mod plan;
+mod program;
 mod ready;
 mod refusal;
 mod row;
 mod saved;
+mod setup;
+mod size;
 mod snapshot;
 mod sources;
 mod stack;
@@ -37,9 +44,12 @@ mod verified;
 
 pub use course::Course;
 pub use layout::{Layout, Slot};
+pub use listing::{Judgement, judge_listing};
 pub use plan::Plan;
+pub use program::{ProgramFault, ScanProgram};
 pub use ready::{check, first_blocked};
 pub use refusal::Refusal;
+pub use setup::{Loaded, Setup};
 pub use snapshot::{BoxedSnapshot, Snapshot};
 pub use sources::Sources;
 pub use verified::{Verified, verify};

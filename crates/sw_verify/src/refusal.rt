@@ -5,7 +5,7 @@ ghost use Rattle.sw_verify.specs.Check.{refusal_number, refusal_name, error_of};
 
 use sw_base::ScpiError;
 
-/// Why a scan may not begin, in the order in which the causes are looked for. The last five are of scan code.
+/// Why a scan may not begin, in the order in which the causes are looked for. The last six are of scan code.
 #[derive(Clone, Copy, Debug, PartialEq, Eq)]
 pub enum Refusal {
     /// Nothing is listed.
@@ -28,6 +28,8 @@ pub enum Refusal {
     NotClosed,
     /// Memory ran out.
     NoMemory,
+    /// A program awaits a trigger of a layer whose source is IMMediate, which none would ever be.
+    NoSource,
 }
 
 impl Refusal {
@@ -46,6 +48,7 @@ impl Refusal {
             Refusal::LeftClosed => 8,
             Refusal::NotClosed => 9,
             Refusal::NoMemory => 10,
+            Refusal::NoSource => 11,
         }
     }
 
@@ -64,6 +67,7 @@ impl Refusal {
             Refusal::LeftClosed => "LeftClosed",
             Refusal::NotClosed => "NotClosed",
             Refusal::NoMemory => "NoMemory",
+            Refusal::NoSource => "NoSource",
         }
     }
 

@@ -122,6 +122,7 @@ pub fn verify(
     points: u32,
 ) -> Result<Verified, Refusal>
     ensures sound { IfOk result (λ v. IsVerified layout.now (is_among closed.now) points code v) }
+    ensures order { IfOk result (λ v. IsInOrder layout.now (is_among closed.now) code) }
     ensures refused { IfErr result (λ r. IsDenied layout.now (is_among closed.now) points code r) }
     // What settings that pass the check compile to is refused for want of memory alone.
     ensures complete { IfErr result (λ r. IsPlanned layout.now (is_among closed.now) points code → r ≡ NoMemory) }

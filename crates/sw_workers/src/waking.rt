@@ -34,7 +34,7 @@ fn may_end(command: &Command) -> bool
         Command::Plain(Plain::OpenAll | Plain::Preset | Plain::Fetch | Plain::Read) => false,
         Command::Signal(_) => true,
         Command::Query(_) | Command::LayerQuery(_, _) | Command::GroupQuery(_, _) => false,
-        Command::SlotQuery(_, _) => false,
+        Command::SlotQuery(_, _) | Command::ListingCheck(_) => false,
         Command::ReadOut(_) | Command::SetStatus(_) => false,
         Command::Continuous(_) | Command::Channels(_, _) | Command::Set(_) => false,
         Command::Macros(_) | Command::Macro(_) | Command::ScanReadings(_, _) => false,

@@ -142,7 +142,29 @@ fn a_rack(rt: HostRuntime) -> Result<(), Fail> {
     check_refused(&rt, alloc, &["rack"], ErrorKind::MissingRequiredArgument)?;
     check_refused(&rt, alloc, &["off"], ErrorKind::MissingRequiredArgument)?;
     let both = ["run", "--fuse", "1", "--rack", "F"];
+    check_refused(&rt, alloc, &both, ErrorKind::ArgumentConflict)?;
+    let both = ["run", "--program", "F", "--rack", "F"];
     check_refused(&rt, alloc, &both, ErrorKind::ArgumentConflict)
+}
+
+#[test]
+fn a_scan_program(rt: HostRuntime) -> Result<(), Fail> {
+    let alloc = rt.alloc();
+    assert!(rt;
+        asks_for(
+            alloc,
+            &["run", "--program", "F"],
+            |file| Order::Program(None, file)
+        )?
+    );
+    assert!(rt;
+        asks_for(
+            alloc,
+            &["run", "--fuse", "1", "--program", "F"],
+            |file| Order::Program(Some(1), file)
+        )?
+    );
+    Ok(())
 }
 
 #[test]

@@ -10,7 +10,7 @@ ghost use Rattle.sw_base.specs.Layout.{Channel, slot_at, is_present, group_of, I
 ghost use Rattle.sw_card.specs.Account.{closed_at, is_meter, of_meter};
 ghost use Rattle.sw_cage.specs.Accounts.{accounts_of, layout_of, is_closed, AreSafe, with_chan, option_rest};
 ghost use Rattle.sw_cage.specs.Accounts.{all_open, IsChannelFault};
-ghost use Rattle.sw_cage.specs.Cards.{KeepsOthers, meters_of};
+ghost use Rattle.sw_cage.specs.Cards.{KeepsOthers, meters_of, all_sure};
 ghost use Rattle.sw_cage.specs.Change.{Sets, IsDisturbed};
 ghost use Rattle.sw_cage.specs.Install.{CanInstall, SlotsRefuseInstall, SlotsRefuseEject};
 ghost use Rattle.sw_cage.specs.Close.{closed_with, HasClash, all_present, CanClose, RefusesClose};
@@ -196,6 +196,13 @@ impl<R: Relay, M: Meter> Slots<R, M> {
     {
         slot::rest_all(&mut self.slots);
         self.claims = Claims::new();
+    }
+
+    /// Whether every card is sure of its relays.
+    pub(crate) fn is_sure(&self) -> bool
+        ensures { result ≡ all_sure R.sure self.now }
+    {
+        self.slots.iter().all(|slot| slot::is_sure_in(slot))
     }
 
     /// Whether the cage has the channel.

@@ -8,7 +8,7 @@ ghost use Rattle.sw_card.specs.Account.{closed_at, is_meter, of_meter, at_rest};
 ghost use Rattle.sw_cage.specs.Accounts.{accounts_of, option_account, slot_contents, option_closed, option_set};
 ghost use Rattle.sw_cage.specs.Accounts.{option_rest, OptionWellFormed};
 ghost use Rattle.sw_cage.specs.Accounts.{all_open, is_closed, IsSlotFault};
-ghost use Rattle.sw_cage.specs.Cards.{meter_only, meters_of};
+ghost use Rattle.sw_cage.specs.Cards.{meter_only, meters_of, option_sure};
 ghost use Rattle.sw_cage.specs.Install.{IsUnfit};
 ghost use Rattle.sw_cage.specs.Masks.{IsSlotMask};
 
@@ -209,6 +209,16 @@ pub(super) fn present_in<R: Relay, M: Meter>(slot: &CageSlot<R, M>, ch: u8) -> b
     match &slot.card {
         Some(card) => !card.is_meter() && ch >= 1 && ch <= card.channels(),
         None => false,
+    }
+}
+
+/// Whether the card in the slot is sure of its relays; an empty slot has none.
+pub(super) fn is_sure_in<R: Relay, M: Meter>(slot: &CageSlot<R, M>) -> bool
+    ensures { result ≡ option_sure R.sure slot.now }
+{
+    match &slot.card {
+        Some(card) => card.is_sure(),
+        None => true,
     }
 }
 

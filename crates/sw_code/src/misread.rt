@@ -1,9 +1,11 @@
-//! Why no step is read from a line of a listing, by the word or the part that stands there. Nothing is promised of
+//! Why a text lists no code, in plain words, by the word or the part that stands on the line. Nothing is promised of
 //! these texts but that they quote the line.
 
+use crate::code::STEPS;
+use crate::fault::{ListError, ListFault};
+use crate::version::{Version, listing_version};
 use std::alloc::{AllocError, Global};
 use sw_base::{CHANNELS, LONGEST_DELAY, TRIGGER_COUNT};
-use sw_code::{ListFault, STEPS, Version};
 
 /// The most bytes of a line that are quoted.
 const QUOTED: usize = 40;
@@ -74,8 +76,58 @@ const FORMS: [Form; 9] = [
     },
 ];
 
+/// Why a text lists no code, by its first fault: the cause without the line where it is, where there is memory for it.
+pub fn explain_fault(alloc: Global, text: &[u8], error: ListError) -> Option<String> {
+    let line = error.line;
+    let cause = match error.kind {
+        ListFault::BadStep if ends_in_return(text, line) =>
+            "a line ends with a line feed alone, and here a carriage return stands before it",
+        ListFault::BadStep if line == 1 =>
+            "a listing begins with `scan` and its version, as `scan 1`, and a line feed",
+        ListFault::BadStep if line == 2 =>
+            "the second line is `meter`, a space, a slot and a line feed",
+        ListFault::BadStep | ListFault::BadNumber => return misread(alloc, text, error),
+        ListFault::TooLong => "a listing has at most 8192 steps",
+        ListFault::NoMemory => "memory ran out",
+    };
+    String::from_str(alloc, cause).ok()
+}
+
+/// What is wrong with this line, by what stands there.
+fn misread(alloc: Global, text: &[u8], error: ListError) -> Option<String> {
+    let line = error.line;
+    let version = listing_version(text)?;
+    let before = usize::try_from(line).ok()?.checked_sub(1)?;
+    let mut lines = text.split(|byte| *byte == b'\n');
+    let found = lines.nth(before)?;
+    if lines.next().is_none() {
+        return String::from_str(alloc, "its line feed is missing").ok();
+    }
+    if line == 2 {
+        misread_slot(alloc, version, found).ok()
+    } else {
+        misread_step(alloc, version, found, error.kind).ok()
+    }
+}
+
+/// Whether a carriage return stands before the line feed of this line.
+fn ends_in_return(text: &[u8], line: u32) -> bool {
+    let mut lines_left = line;
+    let mut before = 0;
+    for byte in text {
+        if *byte == b'\n' {
+            lines_left = lines_left.saturating_sub(1);
+            if lines_left == 0 {
+                return before == b'\r';
+            }
+        }
+        before = *byte;
+    }
+    false
+}
+
 /// Why this version has no such step.
-pub fn misread_step(
+fn misread_step(
     alloc: Global,
     version: Version,
     line: &[u8],
@@ -107,7 +159,7 @@ pub fn misread_step(
 }
 
 /// Why the slot of the second line is none.
-pub fn misread_slot(alloc: Global, version: Version, line: &[u8]) -> Result<String, AllocError> {
+fn misread_slot(alloc: Global, version: Version, line: &[u8]) -> Result<String, AllocError> {
     let slot = line.split(|byte| *byte == b' ').nth(1).unwrap_or(line);
     misread_number(alloc, slot, 1, u64::from(version.slots))
 }

@@ -1,75 +1,32 @@
-//! Why a listing is refused, in plain words: the line on standard error. Nothing is promised of it but that it comes
-//! from the first step that the verifier refuses for that cause.
+//! Why a listing is refused, in plain words. Nothing is promised of them but that they come from the first step that the
+//! verifier refuses for that cause.
 
-use crate::misread::{misread_slot, misread_step};
+use crate::layout::Layout;
+use crate::refusal::Refusal;
 use std::alloc::{AllocError, Global};
-use sw_base::{Chan, POINTS};
+use sw_base::Chan;
 use sw_channel::Position;
-use sw_code::{ListError, ListFault, Step, listing_version, read_listing};
-use sw_verify::{Layout, Refusal};
+use sw_code::{Step, read_listing};
 
-/// Why a text lists no code.
-pub fn explain_fault(alloc: Global, text: &[u8], error: ListError) -> Option<String> {
-    let line = error.line;
-    let cause = match error.kind {
-        ListFault::BadStep if ends_in_return(text, line) =>
-            "a line ends with a line feed alone, and here a carriage return stands before it",
-        ListFault::BadStep if line == 1 =>
-            "a listing begins with `scan` and its version, as `scan 1`, and a line feed",
-        ListFault::BadStep if line == 2 =>
-            "the second line is `meter`, a space, a slot and a line feed",
-        ListFault::BadStep | ListFault::BadNumber => return misread(alloc, text, error),
-        ListFault::TooLong => "a listing has at most 8192 steps",
-        ListFault::NoMemory => "memory ran out",
-    };
-    format!(in alloc; "line {line}: {cause}").ok()
-}
-
-/// What is wrong with this line, by what stands there.
-fn misread(alloc: Global, text: &[u8], error: ListError) -> Option<String> {
-    let line = error.line;
-    let version = listing_version(text)?;
-    let before = usize::try_from(line).ok()?.checked_sub(1)?;
-    let mut lines = text.split(|byte| *byte == b'\n');
-    let found = lines.nth(before)?;
-    if lines.next().is_none() {
-        return format!(in alloc; "line {line}: its line feed is missing").ok();
-    }
-    let cause = if line == 2 {
-        misread_slot(alloc, version, found).ok()?
-    } else {
-        misread_step(alloc, version, found, error.kind).ok()?
-    };
-    format!(in alloc; "line {line}: {cause}").ok()
-}
-
-/// Whether a carriage return stands before the line feed of this line.
-fn ends_in_return(text: &[u8], line: u32) -> bool {
-    let mut lines_left = line;
-    let mut before = 0;
-    for byte in text {
-        if *byte == b'\n' {
-            lines_left = lines_left.saturating_sub(1);
-            if lines_left == 0 {
-                return before == b'\r';
-            }
-        }
-        before = *byte;
-    }
-    false
-}
-
-/// Why the code that a text lists is refused here.
-pub fn explain(alloc: Global, text: &[u8], layout: &Layout, refusal: Refusal) -> Option<String> {
+/// Why the code that a text lists is refused with these cards, while these channels are closed and there is room for
+/// `points` readings; where there is memory for it.
+pub fn explain(
+    alloc: Global,
+    text: &[u8],
+    layout: &Layout,
+    closed: &[Chan],
+    points: u32,
+    refusal: Refusal,
+) -> Option<String> {
     let code = read_listing(alloc, text).ok()?;
     let slot = code.meter();
     let remark = match refusal {
         Refusal::BadNesting | Refusal::BadJump => misnested(alloc, code.steps()),
         Refusal::NoMeter => format!(in alloc; "line 2: slot {slot} has no meter").map(Some),
         Refusal::TooManyReadings => {
-            format!(in alloc; "it makes more than {POINTS} readings").map(Some)
+            format!(in alloc; "it makes more than {points} readings").map(Some)
         }
-        _ => misplaced(alloc, code.steps(), layout),
+        _ => misplaced(alloc, code.steps(), layout, closed),
     };
     remark.ok()?
 }
@@ -180,18 +137,25 @@ fn halted(
     format!(in alloc; "line {next}: a step stands behind `halt`").map(Some)
 }
 
-/// The channels that are closed at a step, and those that were where each open loop began.
+/// The channels that are closed at a step, those that were where each open loop began, and those before the scan.
 #[derive(Drop)]
-struct Closed {
+struct Closed<'a> {
     chans: Vec<Chan>,
     marks: Vec<Vec<Chan>>,
+    before: &'a [Chan],
 }
 
 /// What is wrong with a step's channel, or with what a loop or the whole leaves closed.
-fn misplaced(alloc: Global, steps: &[Step], layout: &Layout) -> Result<Option<String>, AllocError> {
+fn misplaced(
+    alloc: Global,
+    steps: &[Step],
+    layout: &Layout,
+    before: &[Chan],
+) -> Result<Option<String>, AllocError> {
     let mut closed = Closed {
-        chans: Vec::new(alloc),
+        chans: before.to_vec(alloc)?,
         marks: Vec::new(alloc),
+        before,
     };
     for (index, step) in steps.iter().enumerate() {
         let remark = placed(alloc, &mut closed, line_of(index), *step, layout)?;
@@ -205,7 +169,7 @@ fn misplaced(alloc: Global, steps: &[Step], layout: &Layout) -> Result<Option<St
 /// What is wrong with a step, with these channels closed.
 fn placed(
     alloc: Global,
-    closed: &mut Closed,
+    closed: &mut Closed<'_>,
     line: usize,
     step: Step,
     layout: &Layout,
@@ -219,9 +183,9 @@ fn placed(
             Some(before) => left(alloc, line, "the loop", &before, &closed.chans),
             None => Ok(None),
         },
-        Step::Halt => left(alloc, line, "the scan", &[], &closed.chans),
+        Step::Halt => left(alloc, line, "the scan", closed.before, &closed.chans),
         Step::Close(position) => close_each(alloc, &mut closed.chans, line, &position, layout),
-        Step::Open(position) => open_each(alloc, &mut closed.chans, line, &position),
+        Step::Open(position) => open_each(alloc, closed, line, &position),
         _ => Ok(None),
     }
 }
@@ -247,16 +211,17 @@ fn close_each(
 /// Opens the channels of a position, from left to right, up to the first that the scan has not closed; and says so.
 fn open_each(
     alloc: Global,
-    closed: &mut Vec<Chan>,
+    closed: &mut Closed<'_>,
     line: usize,
     position: &Position,
 ) -> Result<Option<String>, AllocError> {
     for chan in position.as_slice() {
-        let Some(at) = closed.iter().position(|c| c == chan) else {
+        let at = closed.chans.iter().position(|c| c == chan);
+        let Some(at) = at.filter(|_| !closed.before.contains(chan)) else {
             let name = name_of(alloc, *chan)?;
             return format!(in alloc; "line {line}: the scan has not closed {name}").map(Some);
         };
-        closed.remove(at);
+        closed.chans.remove(at);
     }
     Ok(None)
 }
