@@ -18,7 +18,7 @@ pub struct Sid {
 }
 
 /// What a session asks. It carries no card.
-#[derive(Debug, Drop)]
+#[derive(Drop)]
 pub enum SessionAsk {
     /// To be one of the sessions.
     Join,
@@ -55,7 +55,7 @@ pub enum SessionAsk {
 }
 
 /// What a session is answered. It carries no card.
-#[derive(Debug, Drop)]
+#[derive(Drop)]
 pub enum SessionAnswer {
     /// It is this session now.
     Joined(Sid),

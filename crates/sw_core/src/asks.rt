@@ -117,7 +117,7 @@ pub fn acts_unnumbered<R: Relay, M: Meter>(ask: &Ask<R, M>) -> bool
 pub fn hand_back(ask: SessionAsk, answer: &mut SessionAnswer)
     ensures { answer.new ≡ Worn ask }
 {
-    *answer = SessionAnswer::Worn(ask);
+    put(SessionAnswer::Worn(ask), answer);
 }
 
 /// Hands a unit's command back that can't be numbered, as `hand_back` does.
@@ -125,7 +125,10 @@ pub fn hand_back(ask: SessionAsk, answer: &mut SessionAnswer)
 pub fn hand_unit_back(sid: Sid, command: Command, available: bool, answer: &mut SessionAnswer)
     ensures { answer.new ≡ Worn (Unit sid command available) }
 {
-    *answer = SessionAnswer::Worn(SessionAsk::Unit(sid, command, available));
+    put(
+        SessionAnswer::Worn(SessionAsk::Unit(sid, command, available)),
+        answer,
+    );
 }
 
 /// Hands a unit's command back that is held, as `hold` does.
@@ -133,7 +136,10 @@ pub fn hand_unit_back(sid: Sid, command: Command, available: bool, answer: &mut 
 pub fn hold_unit(sid: Sid, command: Command, available: bool, answer: &mut SessionAnswer)
     ensures { answer.new ≡ Hold (Unit sid command available) }
 {
-    *answer = SessionAnswer::Hold(SessionAsk::Unit(sid, command, available));
+    put(
+        SessionAnswer::Hold(SessionAsk::Unit(sid, command, available)),
+        answer,
+    );
 }
 
 /// Hands a session's ask back that is held.
@@ -141,7 +147,7 @@ pub fn hold_unit(sid: Sid, command: Command, available: bool, answer: &mut Sessi
 pub fn hold(ask: SessionAsk, answer: &mut SessionAnswer)
     ensures { answer.new ≡ Hold ask }
 {
-    *answer = SessionAnswer::Hold(ask);
+    put(SessionAnswer::Hold(ask), answer);
 }
 
 /// Answers one who is no session.
@@ -149,7 +155,7 @@ pub fn hold(ask: SessionAsk, answer: &mut SessionAnswer)
 pub fn turn_away(answer: &mut SessionAnswer)
     ensures { answer.new ≡ Stranger }
 {
-    *answer = SessionAnswer::Stranger;
+    put(SessionAnswer::Stranger, answer);
 }
 
 /// Answers that a clear drops the ask.
@@ -157,7 +163,7 @@ pub fn turn_away(answer: &mut SessionAnswer)
 pub fn break_off(answer: &mut SessionAnswer)
     ensures { answer.new ≡ Broken }
 {
-    *answer = SessionAnswer::Broken;
+    put(SessionAnswer::Broken, answer);
 }
 
 /// Leaves an answer where the caller looks.

@@ -286,10 +286,12 @@ impl<R: Relay, M: Meter> Core<R, M> {
             (any_failed self.old.cage.cards self.new.cage.cards) answer.new (work_seen work.new) self.new }
     {
         if !self.sessions.has(sid) {
+            drop(command);
             turn_away(answer);
             return;
         }
         if self.sessions.is_clearing(sid) {
+            drop(command);
             break_off(answer);
             return;
         }
@@ -345,10 +347,12 @@ impl<R: Relay, M: Meter> Core<R, M> {
             return;
         };
         if !self.sessions.has(sid) {
+            drop(ask);
             turn_away(answer);
             return;
         }
         if self.sessions.drops(sid, &ask) {
+            drop(ask);
             break_off(answer);
             return;
         }
@@ -367,7 +371,10 @@ impl<R: Relay, M: Meter> Core<R, M> {
     {
         match ask {
             SessionAsk::Attach(number) => put(self.attach(number), answer),
-            _ => put(self.join(), answer),
+            ask => {
+                drop(ask);
+                put(self.join(), answer);
+            }
         }
     }
 
