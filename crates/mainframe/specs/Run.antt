@@ -18,7 +18,7 @@ use Rattle.sw_serve.specs.SlotCards.{PlacedCard, IsSetUp}
 use Rattle.mainframe.specs.Lines.{lines_of}
 use Rattle.sw_session.specs.ServeWrite.{WritesPart}
 
--- where a run stands
+-- a run's state
 abbrev pub RunState : Type 0
 RunState = StateOver DeskSeen
 
@@ -53,8 +53,8 @@ asks_over sid s [] bytes s' run = []
 asks_over sid s (l ∷ ls) bytes s' (told, mid, more, line, run, is) =
     asked_in line.talked.trace ++ asks_over sid mid ls more s' run
 
--- All that was asked of the mainframe, from its opening state on, is a run, each event of which is good: the session
--- joined, cards came in, the session asked this, and work was carried out.
+-- All that was asked of the mainframe, from its opening state on, is a run, and each event of the run is good: the
+-- session joined, cards came in, the session asked this, and work was carried out.
 pub record IsWhole (sid : Sid) (asks : List Exchange) (q : Panel) : Type 0 where
   pub runs : IsRunTo opening q
   pub asks_are : asked_of runs.events ≡ record { ask = Ask.Join; answer = Joined sid } ∷ asks
@@ -128,7 +128,7 @@ pub record Unbegun (fault : RunFault) (input : List ℕ) (left old new : Option 
   pub unread : left ≡ Some input
   pub unwritten : Keeps old new
 
--- What a run comes to by a mainframe of these cards. At Ok all of the input was read and answered. At a fault either
+-- The outcome of a run by a mainframe of these cards. At Ok all of the input was read and answered. At a fault either
 -- nothing was begun, or the answers are written up to the fault.
 pub record Runs (cards : List PlacedCard) (result : Result (Unit {0}) RunFault) (input : List ℕ)
     (left old new : Option (List ℕ)) : Type 0 where

@@ -63,7 +63,7 @@ pub struct Serving {
     pub port: u16,
     /// Until the end of standard input, and not for ever.
     pub until_end_of_input: bool,
-    /// Each connection is told of on standard error.
+    /// The server logs each connection on standard error.
     pub is_logged: bool,
 }
 
@@ -102,7 +102,7 @@ impl Unrun {
     }
 }
 
-/// What these words ask for, of which the first is the program's name, or why they ask for nothing to be run.
+/// What these words ask for, or why they ask for nothing to be run. The first word is the program's name.
 pub fn parse_words(alloc: Global, words: &[String]) -> Result<Order, Unrun> {
     match matches_of(alloc, words) {
         Ok(matches) => order_of(alloc, &matches),
@@ -259,7 +259,7 @@ fn serving_of(serve: &ArgMatches) -> Result<Serving, Unrun> {
     })
 }
 
-/// The address that a word tells.
+/// The address that a word gives.
 fn address_of(word: Option<&str>) -> Result<Option<IpAddr>, Unrun> {
     let Some(word) = word else {
         return Ok(None);

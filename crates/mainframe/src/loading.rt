@@ -1,4 +1,4 @@
-//! A scan program that stands in a file.
+//! A scan program in a file.
 
 ghost use Rattle.std.specs.Prelude.{◌≡◌, Ok, IfOk};
 ghost use Rattle.sw_code.specs.Reading.{code_in};
@@ -35,7 +35,7 @@ const NOT_RUNNABLE: &str =
     "it can run nowhere: its loops aren't nested, do nothing or do more than can be counted, or \
     nothing is awaited";
 
-/// The program that a text lists, or why there is none, as `check` tells it.
+/// The program that a text lists, or why there is none, as `check` prints it.
 pub fn program_of(alloc: Global, text: &[u8]) -> Result<BoxedProgram, LoadFault>
     ensures { IfOk result (λ p. (code_in text.now ≡ Ok p) × IsRunnable p) }
 {

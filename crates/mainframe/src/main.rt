@@ -4,7 +4,7 @@
 //! contract is that of `run::run_lines`: what is written is what the definition of a talk says of what was read, by the
 //! step relation of the core from its opening state. `mainframe check` says of a listing whether the program's cards
 //! may do its scan; its contract is that of `listing::check_listing`. `mainframe serve` serves sessions over TCP at the
-//! address and the port that `Serving::bound_at` tells; its contract is that of `serving::serve_on`: how many
+//! address and the port that `Serving::bound_at` gives; its contract is that of `serving::serve_on`: how many
 //! connections it takes; and of `sw_serve::serve_cards`: which cards come out of their slots at the end, each of them
 //! open.
 //!

@@ -326,7 +326,7 @@ pub fn rack_layout(alloc: Global, rack: &Rack) -> Result<Layout, AllocError>
     Ok(Layout::new(slots))
 }
 
-/// What stands in a slot.
+/// What is in a slot.
 fn slot_of(alloc: Global, rack: &Rack, slot: u8) -> Result<Slot, AllocError>
     ensures { IfOk result (λ found. found ≡ slot_contents (offered_to slot (rack_cards rack.now.cards.items))) }
 {

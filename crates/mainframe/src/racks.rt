@@ -13,7 +13,7 @@ use sw_drivers::{Board, DriverFault, Interlock, Told};
 use sw_rack::{CardKind, Groups, Rack, RackCard, RackError, read_rack};
 use sw_serve::SlotCard;
 
-/// Standard error, where a driver tells why a call of it has failed.
+/// Standard error, where a driver prints why a call of it has failed.
 #[derive(Clone, Copy, Drop)]
 pub struct ErrorTold {
     rt: HostRuntime,
@@ -36,7 +36,7 @@ fn text_in<W: Files>(rt: &W, alloc: Global, path: &str) -> io::Result<String> {
     io::read_to_string(alloc, File::open(rt, path)?)
 }
 
-/// The rack that this file describes; or the status to end with, the cause being told.
+/// The rack that this file describes. Or it prints the cause, and gives the status to end with.
 pub fn rack_in<W: Files + Eprint>(rt: &W, alloc: Global, path: &str) -> Result<Rack, ExitCode> {
     let text = match text_in(rt, alloc, path) {
         Ok(text) => text,
@@ -55,8 +55,8 @@ pub fn rack_in<W: Files + Eprint>(rt: &W, alloc: Global, path: &str) -> Result<R
     }
 }
 
-/// The cards of the rack that this file describes, each reached, with every relay off; or the status to end with, the
-/// cause being told.
+/// The cards of the rack that this file describes, each reached, with every relay off. Or it prints the cause, and
+/// gives the status to end with.
 pub fn cards_in(rt: &HostRuntime, path: &str) -> Result<(HostCards, Interlock), ExitCode> {
     let alloc = rt.alloc();
     let rack = rack_in(rt, alloc, path)?;
@@ -78,7 +78,8 @@ pub fn cards_in(rt: &HostRuntime, path: &str) -> Result<(HostCards, Interlock), 
     }
 }
 
-/// The status at the end: where a slot's relays may be closed still, each is told, and it is 1.
+/// The status at the end. It prints each slot with relays that may still be closed; where there is one, the status is
+/// 1.
 pub fn ended(rt: &impl Eprint, interlock: &Interlock, status: ExitCode) -> ExitCode {
     if !interlock.is_held() {
         return status;
@@ -111,7 +112,7 @@ enum Doing {
     SwitchingOff,
 }
 
-/// Does this with each card, whatever came of those before. What came of it is told; the status is 1 where one failed.
+/// Does this with each card, even where one before it failed, and prints the outcome. The status is 1 where one failed.
 fn with_each_card(rt: &HostRuntime, path: &str, doing: Doing) -> ExitCode {
     let rack = match rack_in(rt, rt.alloc(), path) {
         Ok(rack) => rack,
@@ -126,7 +127,7 @@ fn with_each_card(rt: &HostRuntime, path: &str, doing: Doing) -> ExitCode {
     status
 }
 
-/// Does this with a card, and tells what came of it.
+/// Does this with a card, and prints the outcome.
 fn is_done(rt: &HostRuntime, card: RackCard, doing: Doing) -> bool {
     let told = describe(rt.alloc(), &card);
     let done = match doing {
@@ -155,7 +156,7 @@ fn out_of_memory(rt: &impl Eprint) -> ExitCode {
     ExitCode::from(1)
 }
 
-/// Reaches what stands behind a card.
+/// Reaches what is behind a card.
 fn reach(rt: &HostRuntime, card: RackCard) -> Result<Option<&'static str>, RackCardFault> {
     let alloc = rt.alloc();
     let RackCard { slot, kind, .. } = card;

@@ -25,9 +25,9 @@ use sw_session::{CoreDesk, TURNS, Talker};
 /// Answers each line of the reader as a program message, by the program's cards: a multiplexer of 20 channels in group
 /// 1, a matrix of 16, a multiplexer of 10 in group 1 and a meter. `fuse` says which closing of slot 1 fails, from 1.
 ///
-/// An answer is written and handed on before the reader is asked for more (`run_on`). At a fault the answers of the
-/// lines before stand, and nothing was read but those, and at a fault of the reader or for want of memory a part of the
-/// next.
+/// It writes and flushes an answer before it asks the reader for more (`run_on`). At a fault the answers to the lines
+/// before are written, and nothing was read but those lines; at a fault of the reader or for want of memory also a part
+/// of the next.
 pub fn run_lines<Rd: BufRead, W: Write>(
     alloc: Global,
     reader: &mut Rd,
@@ -66,8 +66,8 @@ pub fn run_program_lines<Rd: BufRead, W: Write>(
     run_on(alloc, reader, writer, &mut desk, sid)
 }
 
-/// Answers each line of the source as a program message, by a mainframe that takes these cards. The program's are never
-/// refused (`cards_are_welcome`), so where none is to be had there was no memory.
+/// Answers each line of the source as a program message, by a mainframe that takes these cards. A mainframe never
+/// refuses the program's cards (`cards_are_welcome`), so a failure to make it is want of memory.
 pub fn run_over<R: Relay, M: Meter, S: LineSource<W>, W: Write>(
     alloc: Global,
     source: &mut S,
@@ -89,8 +89,8 @@ pub fn run_over<R: Relay, M: Meter, S: LineSource<W>, W: Write>(
     }
 }
 
-/// Answers each line of the source by the desk. Each time that the source is asked for bytes, all answers so far are
-/// written and handed on.
+/// Answers each line of the source by the desk. Each time that it asks the source for bytes, it has written and flushed
+/// all answers so far.
 pub fn run_on<R: Relay, M: Meter, S: LineSource<W>, W: Write>(
     alloc: Global,
     source: &mut S,

@@ -16,7 +16,7 @@ use Rattle.sw_cage.specs.declared.taken.Taken.TheVariants.{Ignored, Waits, Pause
 abbrev pub Cards : Type 0 → Type 0
 Cards C = List (Option (C × Account))
 
--- a cage as contracts see it: the cards themselves, and what is seen of the cage, the cards by their accounts
+-- a cage as contracts see it: the cards themselves, and the cage as data, each card as its account
 pub record CageState (C : Type 0) : Type 0 where
   pub cards : Cards C
   pub seen : CageSeen
@@ -43,8 +43,8 @@ job_card job = (inr job.0, of_meter job.1.meter)
 abbrev pub with_card_back : {R M : Type 0} → Cards (R ⊎ M) → M × FinishedSeen → Cards (R ⊎ M)
 with_card_back cards done = slice_set cards (done.1.slot - 1) (Some (inr done.0, of_meter done.1.meter))
 
--- Where the meters are once this is told: a job's is the very card that stood in its slot, which is empty now; every
--- other is where it was, the very card.
+-- Where the meters are after this outcome: a job's meter is the very card that was in its slot, which is empty now;
+-- every other is where it was, the very card.
 abbrev pub KeepsMeters : {R M : Type 0} → Cards (R ⊎ M) → Taken M → Cards (R ⊎ M) → Type 0
 KeepsMeters old Ignored new = meters_of new ≡ meters_of old
 KeepsMeters old Waits new = meters_of new ≡ meters_of old
@@ -54,7 +54,7 @@ KeepsMeters old (Job job) new = (slot_at old job.1.slot ≡ Some (job_card job))
 KeepsMeters old Ended new = meters_of new ≡ meters_of old
 KeepsMeters old Fault new = meters_of new ≡ meters_of old
 
--- whether what a slot holds is sure of its relays, a relay card by its own word; an empty slot has none
+-- whether what a slot holds is sure of its relays, a relay card by its own answer; an empty slot has none
 abbrev pub option_sure : {R M : Type 0} → (R → Bool) → Option ((R ⊎ M) × Account) → Bool
 option_sure sure None = true
 option_sure sure (Some card) = surety sure card.0

@@ -23,9 +23,9 @@ pub enum Step {
     Set(u8, u32),
     /// A trigger for the layer is awaited.
     Wait(LayerName),
-    /// The end of the layer's timer is awaited, so many microseconds, 1 to an hour.
+    /// The scan awaits the end of the layer's timer, of this many microseconds, 1 to an hour.
     Timer(LayerName, u64),
-    /// The end of so many microseconds is awaited, 1 to an hour.
+    /// The scan awaits the end of a pause of this many microseconds, 1 to an hour.
     Pause(u64),
     /// The channels are closed, in order.
     Close(Position),

@@ -1,5 +1,5 @@
-//! Why a text lists no code, in plain words, by the word or the part that stands on the line. Nothing is promised of
-//! these texts but that they quote the line.
+//! Why a text lists no code, in plain words, by the word or the part on the line. The crate promises of these texts
+//! only that they quote the line.
 
 use crate::code::STEPS;
 use crate::fault::{ListError, ListFault};
@@ -93,7 +93,7 @@ pub fn explain_fault(alloc: Global, text: &[u8], error: ListError) -> Option<Str
     String::from_str(alloc, cause).ok()
 }
 
-/// What is wrong with this line, by what stands there.
+/// What is wrong with this line, by its text.
 fn misread(alloc: Global, text: &[u8], error: ListError) -> Option<String> {
     let line = error.line;
     let version = listing_version(text)?;
@@ -110,7 +110,7 @@ fn misread(alloc: Global, text: &[u8], error: ListError) -> Option<String> {
     }
 }
 
-/// Whether a carriage return stands before the line feed of this line.
+/// Whether this line has a carriage return before its line feed.
 fn ends_in_return(text: &[u8], line: u32) -> bool {
     let mut lines_left = line;
     let mut before = 0;

@@ -1,4 +1,4 @@
--- What the state leaves open of an answer: what cards say of their relays, and what is said of a listing.
+-- What the state leaves open of an answer: what cards say of their relays, and the check of a listing.
 use Rattle.std.specs.Prelude.{ℕ, Bool, true, List, Some}
 use Rattle.sw_lex.specs.Apart.{same_word}
 use Rattle.sw_core.specs.declared.ask.SessionAsk.{SessionAsk}
@@ -14,7 +14,7 @@ pub data LeftOpen : Type 0 where
   Determined : LeftOpen
   -- whether the answer is that of cards that are sure of their relays
   OfCards : (sure : Bool) → LeftOpen
-  -- the text for a listing, whose plain words nothing promises
+  -- the text for a listing; no contract promises its plain words
   OfListing : (text : List ℕ) → LeftOpen
 
 abbrev pub effect_of : Action → Effect
@@ -28,7 +28,7 @@ left_open (TellsSurety text) p (Done (Some told)) = OfCards (same_word told (tex
 left_open (TellsListing listing) p (Done (Some told)) = OfListing told
 left_open effect p answer = Determined
 
--- of what a session's ask is answered
+-- of the answer to a session's ask
 abbrev pub answer_leaves : Panel → SessionAsk → SessionAnswer → LeftOpen
 answer_leaves p (Ask.Unit sid command available) answer = left_open (effect_of (action_of available command)) p answer
 answer_leaves p ask answer = Determined

@@ -1,5 +1,5 @@
--- What DIAGnostic:SCAN:CHECk? tells of a listing in a block: what `mainframe check` says of it, of the cards that are
--- there, the channels that are closed and TRACe:POINts (own). Any scan may run then, and a program be on.
+-- The answer to DIAGnostic:SCAN:CHECk? with a listing in a block: what `mainframe check` says of it, with the cards
+-- that are there, the channels that are closed and TRACe:POINts (own). A scan may run meanwhile, and a program be on.
 use Rattle.std.specs.Prelude.{◌≡◌, ℕ, Bool, true, List, [], ◌∷◌, ◌++◌, Option, Some, None, codes}
 use Rattle.sw_lex.specs.Elements.{doubled}
 use Rattle.sw_verify.specs.Listings.{Says}
@@ -16,8 +16,8 @@ cause_text (Some words) = codes ": " ++ doubled 34 words
 abbrev pub told_text : List ℕ → Option (List ℕ) → List ℕ
 told_text line cause = 34 ∷ (line ++ (cause_text cause ++ 34 ∷ []))
 
--- The text is what is said of the listing, with some plain words of the cause, of which nothing is promised, or without;
--- what is accepted has no cause.
+-- The text is the check of the listing, with some plain words of the cause, which no contract promises, or without; an
+-- accepted listing has no cause.
 pub record IsListingTold (p : Panel) (listing text : List ℕ) : Type 0 where
   pub accepted : Bool
   pub line : List ℕ

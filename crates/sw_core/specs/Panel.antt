@@ -18,7 +18,7 @@ pub record Panel : Type 0 where
   pub opc_waits : Bool
   pub events : ℕ
 
--- an empty cage, nobody joined, status and settings as at the start, and these numbers of events and scans
+-- an empty cage, no session joined, status and settings as at the start, and these numbers of events and scans
 abbrev pub opening_at : ℕ → ℕ → Panel
 opening_at events scans = record {
   cage = record empty_cage { number = scans };

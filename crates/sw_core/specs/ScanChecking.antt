@@ -1,4 +1,4 @@
--- Why no scan may begin now: what DIAGnostic:SCAN:CHECk? tells (own).
+-- Why no scan may begin now: the answer to DIAGnostic:SCAN:CHECk? (own).
 use Rattle.std.specs.Prelude.{ℕ, ◌==◌, nat_lt, List, [], ◌∷◌, ◌++◌, length, codes, decimal}
 use Rattle.std.specs.Prelude.{Option, Some, None, is_some, if◌then◌else◌}
 use Rattle.sw_base.specs.Layout.{Channel, Layout, slot_at, group_of, has_meter}
@@ -50,7 +50,7 @@ abbrev pub first_blocked : Layout → List Channel → List Position → Option 
 first_blocked layout closed [] = None
 first_blocked layout closed (p ∷ ps) = or_next (first_in layout closed p) (first_blocked layout closed ps)
 
--- ---- what is told
+-- ---- the answer's text
 
 -- `s!c`
 abbrev pub written : Channel → List ℕ

@@ -1,4 +1,4 @@
--- What DIAGnostic:SCAN:CHECk? tells is so.
+-- The answer to DIAGnostic:SCAN:CHECk? is true.
 use Rattle.std.specs.Prelude.{◌≡◌, ℕ, List, [], ◌++◌, None, codes}
 use Rattle.sw_verify.specs.declared.refusal.Refusal.{Refusal}
 use Rattle.sw_verify.specs.Check.{IsReadyBySettings, IsFirst}
@@ -9,9 +9,10 @@ use Rattle.sw_core.specs.ScanChecking.{accepted_text, refused_text, scan_check_t
 use Rattle.sw_core.specs.Good.{IsGoodPanel}
 use Rattle.sw_core.specs.Step.{MayScan, snapshot_of}
 
--- Of a good mainframe with no program on it begins with `ok` exactly where INITiate is taken, unless memory runs out: no
--- scan runs, the meter is in, a number is left, and what the scan would begin from passes the check. It names a refusal
--- exactly where a scan may begin but for that refusal, the first that applies. Where a program is on it does neither.
+-- On a good mainframe with no program on, it begins with `ok` exactly where the mainframe takes INITiate, unless memory
+-- runs out: no scan runs, the meter is in, a number is left, and what the scan would begin from passes the check. It
+-- names a refusal exactly where a scan may begin but for that refusal, the first that applies. Where a program is on it
+-- does neither.
 pub record ScanIsTold : Type 0 where
   pub allowed : (p : Panel) (words : List ℕ) → IsGoodPanel p → scan_check_text p ≡ quoted (codes "ok" ++ words) []
       → MayScan p × IsReadyBySettings (snapshot_of p)

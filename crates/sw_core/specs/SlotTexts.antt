@@ -1,5 +1,5 @@
--- What is told of a slot: its card, the groups of the card's channels, and whether the card is sure of its relays (own;
--- SYSTem:CTYPe? as other switch mainframes have it).
+-- The answers to the queries of a slot: its card, the groups of the card's channels, and whether the card is sure of
+-- its relays (own; SYSTem:CTYPe? as other switch mainframes have it).
 use Rattle.std.specs.Prelude.{ℕ, Bool, true, false, not, ◌||◌, List, [], ◌++◌, length, map, decimal, codes, Option, Some, None}
 use Rattle.std.specs.Prelude.{if◌then◌else◌}
 use Rattle.std.specs.List.{join_with_byte}
@@ -16,7 +16,7 @@ abbrev pub kind_word : Account → List ℕ
 kind_word card = if is_meter card then codes "METER" else codes "RELAY" ++ decimal (length card.groups)
 
 -- a card's kind and serial number; an empty slot has zeros. The serial number of a meter that is out to measure is not
--- available, which is told as 0 (IEEE 488.2, 10.14).
+-- available, written as 0 (IEEE 488.2, 10.14).
 abbrev pub card_text : Option Account → Option Ticket → List ℕ
 card_text (Some card) out = four_fields (kind_word card) (decimal card.serial) revision
 card_text None (Some ticket) = four_fields (codes "METER") (codes "0") revision
@@ -45,12 +45,12 @@ groups_text slot p = join_with_byte 44 (map decimal (groups_of (slot_at p.cage.c
 
 -- ---- SYSTem:CTYPe:STATe?
 
--- what a card says of its relays: that they stand as its account says, or that it can't tell
+-- what a card says of its relays: that they are as its account says, or that it is not sure
 abbrev pub surety_word : Bool → List ℕ
 surety_word true = codes "SURE"
 surety_word false = codes "UNS"
 
--- what is told by whether the card is sure: an empty slot is empty, and a meter, in its slot or out, has no relays
+-- the answer by whether the card is sure: an empty slot is empty, and a meter, in its slot or out, has no relays
 abbrev pub card_state : Option Account → Option Ticket → Bool → List ℕ
 card_state None None sure = codes "EMPT"
 card_state None (Some ticket) sure = surety_word true

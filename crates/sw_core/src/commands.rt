@@ -1,4 +1,4 @@
-//! Commands: what each family comes to.
+//! Commands: what each family does.
 
 ghost use Rattle.std.specs.Prelude.{◌≡◌, ◌&&◌, None, false};
 ghost use Rattle.sw_cage.specs.Change.{any_failed};
@@ -17,9 +17,9 @@ use sw_card::{Meter, Relay};
 use sw_lex::{Channels, Command, Plain, Setting, Time};
 
 impl<R: Relay, M: Meter> Core<R, M> {
-    /// Carries a command out that is offered to no scan and that nothing holds, or refuses it while a scan runs;
-    /// `available` says whether its message has answered before, so that a message is available. A command that has no
-    /// row here doesn't compile.
+    /// Carries out a command that the cage offers to no scan and that the mainframe doesn't hold, or refuses it while a
+    /// scan runs; `available` says whether its message has answered before, so that a message is available. A command
+    /// that has no row here doesn't compile.
     #[tactic(auto, using(crate::proofs::CallsLemmas::failed_same))]
     #[inline(never)]
     pub(crate) fn command(
@@ -135,21 +135,21 @@ impl<R: Relay, M: Meter> Core<R, M> {
     }
 }
 
-/// What is answered to what a scan that runs refuses.
+/// The answer to a command that the mainframe refuses while a scan runs.
 fn conflict() -> SessionAnswer
     ensures { result ≡ SessionAnswer.Refused ScpiError.SettingsConflict }
 {
     SessionAnswer::Refused(ScpiError::SettingsConflict)
 }
 
-/// What a command is answered that is a session's own.
+/// The answer to a command that only a session carries out.
 fn undefined() -> SessionAnswer
     ensures { result ≡ SessionAnswer.Refused ScpiError.UndefinedHeader }
 {
     SessionAnswer::Refused(ScpiError::UndefinedHeader)
 }
 
-/// What a setting's command is answered.
+/// The answer to a setting's command.
 fn taken(set: Result<(), ScpiError>) -> SessionAnswer
     ensures { TakesSetting set result }
 {

@@ -1,4 +1,4 @@
-//! What is said of a listing in a block: whether its scan may be done now.
+//! The check of a listing in a block: whether its scan may be done now.
 
 ghost use Rattle.std.specs.Prelude.{◌≡◌, ◌∷◌, ◌++◌, [], Bool, IfOk, string_bytes};
 ghost use Rattle.std.specs.Option.{option_map};
@@ -16,7 +16,7 @@ use sw_card::{Meter, Relay};
 use sw_verify::{Judgement, judge_listing};
 
 impl<R: Relay, M: Meter> Core<R, M> {
-    /// Tells what is said of this listing with the cards that are there, the channels that are closed and TRACe:POINts.
+    /// Answers the check of this listing with the cards that are there, the channels that are closed and TRACe:POINts.
     #[inline(never)]
     pub(crate) fn check_listing(&self, alloc: Global, listing: &[u8]) -> SessionAnswer
         ensures { StepListing self.now listing.now Bool.false result self.now }

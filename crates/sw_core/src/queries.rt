@@ -155,7 +155,7 @@ impl<R: Relay, M: Meter> Core<R, M> {
         }
     }
 
-    /// The readings of the scan with this number, where it made so many, and no scan began since.
+    /// The readings of the scan with this number, where it made exactly this count of them and no scan began since.
     #[inline(never)]
     pub(crate) fn scan_readings(&self, alloc: Global, number: u64, count: u64) -> SessionAnswer
         ensures { StepReadings (readings_of_scan number count self.now) self.now Bool.false result self.now }
@@ -167,7 +167,8 @@ impl<R: Relay, M: Meter> Core<R, M> {
         }
     }
 
-    /// The readings of the last scan, copied: their text is made where nobody waits for the mainframe.
+    /// The readings of the last scan, copied: their text is made outside the mainframe, so that no other session waits
+    /// for it.
     #[inline(never)]
     pub(crate) fn fetch(&self, alloc: Global) -> SessionAnswer
         ensures { StepReadings self.now.cage.readings self.now Bool.false result self.now }
@@ -183,7 +184,7 @@ impl<R: Relay, M: Meter> Core<R, M> {
     }
 }
 
-/// What is answered where there are no readings to tell.
+/// The answer where there are no readings.
 fn stale() -> SessionAnswer
     ensures { result ≡ Refused DataCorruptOrStale }
 {

@@ -23,21 +23,21 @@ use sw_status::Status;
 /// The condition bit of a card that failed, or that is unsure of its relays (own).
 const CARD_FAULT: u16 = 1 << 9;
 
-/// Tells QUEStionable that a card failed.
+/// Sets the condition of QUEStionable: it reports that a card failed.
 pub fn report_card_fault(status: &mut Status)
     ensures { status.new ≡ card_fault_reported status.old }
 {
     status.set_condition(StatusGroup::Questionable, CARD_FAULT);
 }
 
-/// Tells QUEStionable that no failure stands any more.
+/// Clears the condition of QUEStionable: it reports no failure any more.
 pub fn clear_card_fault(status: &mut Status)
     ensures { status.new ≡ card_fault_cleared status.old }
 {
     status.set_condition(StatusGroup::Questionable, 0);
 }
 
-/// Tells QUEStionable whether a card failed.
+/// Sets QUEStionable by whether a card failed.
 pub fn set_card_fault(status: &mut Status, failed: bool)
     ensures { status.new ≡ (if failed then card_fault_reported status.old else card_fault_cleared status.old) }
 {
@@ -48,8 +48,8 @@ pub fn set_card_fault(status: &mut Status, failed: bool)
     }
 }
 
-/// The condition of QUEStionable as it is told, where these bits are its register: with bit 9 too while a card of the
-/// cage is unsure of its relays.
+/// The condition that QUEStionable's query answers, where these bits are its register: with bit 9 too while a card of
+/// the cage is unsure of its relays.
 pub(crate) fn condition_told<R: Relay, M: Meter>(bits: u16, cage: &Cage<R, M>) -> u16
     ensures { result ≡ condition_told bits (all_sure R.sure cage.now.cards) }
 {
@@ -61,7 +61,7 @@ pub(crate) fn condition_told<R: Relay, M: Meter>(bits: u16, cage: &Cage<R, M>) -
 }
 
 impl<R: Relay, M: Meter> Core<R, M> {
-    /// Tells what a query takes out of the status, and takes it out.
+    /// Answers what a query reads out of the status, and takes that out.
     #[inline(always)]
     pub(crate) fn read_out(&mut self, alloc: Global, read: StatusRead) -> SessionAnswer
         ensures { StepText self.old (read_text read self.old.status) (without_read read self.old.status) Bool.false

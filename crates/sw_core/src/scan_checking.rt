@@ -21,7 +21,7 @@ use sw_trigger::Settings;
 use sw_verify::{Layout, Refusal, first_blocked};
 
 impl<R: Relay, M: Meter> Core<R, M> {
-    /// Tells why INITiate would be refused now, or what its scan awaits and reads.
+    /// Answers why the mainframe would refuse INITiate now, or what its scan awaits and reads.
     #[inline(never)]
     pub(crate) fn check_scan(&self, alloc: Global) -> SessionAnswer
         ensures { StepText self.now (scan_check_text self.now) self.now.status Bool.false result self.now }
@@ -33,7 +33,7 @@ impl<R: Relay, M: Meter> Core<R, M> {
     }
 
     /// The text of that. It looks at each position that the scan uses and at each closed channel twice at most, and at
-    /// the closed channels once more for each channel of the position that is refused.
+    /// the closed channels once more for each channel of the refused position.
     fn scan_check(&self, alloc: Global) -> Result<Sequence<u8>, ScpiError>
         ensures { IfOk result (λ text. text ≡ scan_check_text self.now) }
     {
@@ -86,7 +86,7 @@ fn ready_text(
     counted_text(alloc, settings)
 }
 
-/// What is told of the readings of settings, where nothing else refuses them.
+/// The text on the count of readings of settings, where nothing else refuses them.
 fn counted_text(alloc: Global, settings: &Settings) -> Result<Sequence<u8>, ScpiError>
     ensures { IfOk result (λ text. text ≡ counted_text settings.now) }
 {

@@ -69,7 +69,7 @@ impl<R: Relay, M: Meter> Core<R, M> {
     }
 }
 
-/// A text that was made, or want of memory.
+/// The answer with a text, or the refusal for a lack of memory.
 fn told(text: Result<Sequence<u8>, AllocError>) -> SessionAnswer
     ensures ok { IfOk text (λ text. result ≡ Done (Some text)) }
     ensures err { OnErr text (result ≡ Refused OutOfMemory) }
@@ -80,14 +80,14 @@ fn told(text: Result<Sequence<u8>, AllocError>) -> SessionAnswer
     }
 }
 
-/// What is told of an empty slot.
+/// The answer for an empty slot.
 fn empty() -> AnswerText
     ensures { result ≡ four_fields (codes "0") (codes "0") (codes "0") }
 {
     AnswerText::fixed(b"OPENBENCH,0,0,0")
 }
 
-/// What is told of a meter that is out to measure: its serial number is not available.
+/// The answer for a meter that is out to measure: its serial number is not available.
 fn meter_out() -> AnswerText
     ensures { result ≡ four_fields (codes "METER") (codes "0") revision }
 {

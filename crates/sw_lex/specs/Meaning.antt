@@ -168,7 +168,7 @@ OfCheck [] r = r ≡ Ok (commands.Query queries.ScanCheck)
 OfCheck (d ∷ ds) r = (read : Result (List ℕ) ScpiError) × WithBlock ReadsBlock (d ∷ ds) read
     × (r ≡ result_map_both (λ text. commands.ListingCheck text) (λ e. e) read)
 
--- the command of a header with this number in it and these data, or its first refusal; or want of memory where a list,
+-- the command of a header with this number in it and these data, or its first refusal; or lack of memory where a list,
 -- a string or a block is read
 abbrev pub DecodesCommand : Key → ℕ → List Datum → Result Command ScpiError → Type 0
 DecodesCommand (keys.Plain ask) k ds r = WithNone (commands.Plain ask) ds r

@@ -1,4 +1,4 @@
--- What a block comes to that holds the listing of a scan's program (own; -285 SCPI-1999, 21.8).
+-- The code, or the error, that a block with the listing of a scan's program gives (own; -285 SCPI-1999, 21.8).
 use Rattle.std.specs.Prelude.{◌≡◌, ℕ, List, [], Result, Ok, Err, ◌⊎◌}
 use Rattle.sw_base.specs.declared.error.ScpiError.{ScpiError}
 use Rattle.sw_base.specs.declared.error.ScpiError.TheVariants.{ProgramSyntaxError, TooMuchData, OutOfMemory}
@@ -18,7 +18,7 @@ fault_error TooLong = TooMuchData
 fault_error NoMemory = OutOfMemory
 
 -- The code that the bytes list, which can be run; or why there is none: the first fault of the listing, a code that
--- can't be run, or want of memory.
+-- can't be run, or a lack of memory.
 abbrev pub ReadsListing : List ℕ → Result Program ScpiError → Type 0
 ReadsListing bytes (Ok code) = (code_in bytes ≡ Ok code) × IsRunnable code
 ReadsListing bytes (Err e) =

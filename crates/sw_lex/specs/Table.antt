@@ -1,6 +1,6 @@
 -- The table of headers (SCPI-1999, volume 2; IEEE 488.2, 10), each as the standard writes it: mnemonics joined by
--- colons, nodes that may be left out in brackets, and a question mark behind a query. `#` stands for the
--- number of an ARM layer, or none.
+-- colons, nodes that may be left out in brackets, and a question mark behind a query. `#` is the number of an ARM
+-- layer, or none.
 use Rattle.std.specs.Prelude.{ℕ, Bool, false, ◌==◌, ◌||◌, List, [], ◌∷◌, map, codes, if◌then◌else◌}
 use Rattle.sw_base.specs.declared.terms.StatusGroup.TheVariants as groups
 use Rattle.sw_lex.specs.declared.command.Plain.TheVariants as plain
@@ -118,13 +118,13 @@ table =
 
 -- ---- what is written there
 
--- a node, with its mnemonic: it has to stand there, it may be left out, or it may be left out and have a number
+-- a node, with its mnemonic: the header must have it, may leave it out, or may leave it out or give it a number
 pub data Node : Type 0 where
   must : List ℕ → Node
   may : List ℕ → Node
   numbered : List ℕ → Node
 
--- a header's text, read from its end: the mnemonic at its front so far, as which node it stands, and the nodes after it
+-- a header's text, read from its end: the mnemonic at its front so far, the node that it makes, and the nodes after it
 pub record Scanned : Type 0 where
   pub word : List ℕ
   pub stands : List ℕ → Node

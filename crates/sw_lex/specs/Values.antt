@@ -118,7 +118,7 @@ time_of kind layer n suffix = time_in kind layer n (time_unit_of (map to_ascii_u
 
 -- ---- strings and blocks
 
--- the content of the string that the text is, or want of memory for it; or the text is no string
+-- the content of the string that the text is, or lack of memory for it; or the text is no string
 abbrev pub ReadsString : List ℕ → Result (List ℕ) ScpiError → Type 0
 ReadsString text (Ok content) = IsString text content []
 ReadsString text (Err e) =

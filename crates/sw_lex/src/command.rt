@@ -1,4 +1,4 @@
-//! The commands, by families: what is asked for alike is one variant of `Command`.
+//! The commands, by families: the commands of a family are one variant of `Command`.
 
 ghost use Rattle.std.specs.Prelude.{◌≡◌, IfOk};
 
@@ -24,7 +24,7 @@ pub enum Command {
     GroupQuery(GroupQuery, StatusGroup),
     /// A query of a slot, 1 to `SLOTS`.
     SlotQuery(SlotQuery, u8),
-    /// A query that takes what it tells out of the status.
+    /// A query that takes its answer out of the status.
     ReadOut(StatusRead),
     /// `ARM[:LAYer]:SIGNal`, `TRIGger:SIGNal`
     Signal(LayerName),
@@ -42,8 +42,8 @@ pub enum Command {
     Macros(AllMacros),
     /// A command of one macro, or of whether macros are on.
     Macro(MacroCommand),
-    /// The readings of the scan with this number, where it has made so many: what `READ?` asks for once it has begun
-    /// that scan. No header is it.
+    /// The readings of the scan with this number, where it has made exactly this count of them: `READ?` asks for them
+    /// after it has begun that scan. No header names it.
     ScanReadings(u64, u64),
 }
 
@@ -156,7 +156,7 @@ pub enum SlotQuery {
     State,
 }
 
-/// The queries that take what they tell out of the status.
+/// The queries that take their answer out of the status.
 #[derive(Clone, Copy, Debug, PartialEq, Eq)]
 pub enum StatusRead {
     /// `*ESR?`

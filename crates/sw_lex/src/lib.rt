@@ -6,7 +6,7 @@
 //! The laws: no text has two readings (`one_reading`), no header is two commands (`one_command`), no unit two meanings
 //! (`one_meaning`), and each spelling of a header is its command (`every_spelling`).
 //!
-//! Whether a command can be carried out is no question here, nor whether a channel exists.
+//! The crate does not ask whether the mainframe can carry a command out, nor whether a channel exists.
 #![tactic(auto)]
 
 mod block;

@@ -400,14 +400,13 @@ pub fn resolve(alloc: Global, unit: &RawUnit<'_>, path: &mut Path) -> Result<Com
     }
 }
 
-/// A law: but for want of memory, a unit below a path has one command or one first refusal, and leaves one path.
+/// A law: but for lack of memory, a unit below a path has one command or one first refusal, and leaves one path.
 pub fn one_meaning()
     ensures { (unit : UnitSeen) (below : Nodes) (r s : Result Meant Error) (a b : Nodes) → Resolves unit below r a
         → Resolves unit below s b → r ≢ Err OutOfMemory → s ≢ Err OutOfMemory → (r ≡ s) × (a ≡ b) }
 {}
 
-/// A law: a unit whose header is a spelling of an entry of the table is what that entry asks for, whichever spelling
-/// it is.
+/// A law: a unit with any spelling of a table's entry as its header is what that entry asks for.
 pub fn every_spelling()
     ensures { (entry : HeaderEntry) (unit : UnitSeen) (below : Nodes) (number : ℕ) (r : Result Meant Error)
         (left : Nodes) → IsIn entry entries → entry.query ≡ unit.query

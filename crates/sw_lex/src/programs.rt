@@ -45,7 +45,7 @@ fn judged(alloc: Global, code: Code) -> Result<BoxedProgram, ScpiError>
     }
 }
 
-/// The error of a text that is no listing: -285, -223 for a step too many, -225 for want of memory.
+/// The error of a text that is no listing: -285, -223 for a step too many, -225 for lack of memory.
 fn fault_error(fault: ListFault) -> ScpiError
     ensures { result ≡ fault_error fault }
 {

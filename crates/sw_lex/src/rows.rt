@@ -68,7 +68,7 @@ pub struct Group {
     pub rows: &'static [Row],
 }
 
-/// The headers whose first words begin with one letter, by their first mnemonics.
+/// The headers whose first words begin with the same letter, by their first mnemonics.
 #[derive(Clone, Copy)]
 pub struct Part {
     pub commands: &'static [Group],

@@ -16,7 +16,7 @@ pub enum Key {
     LayerQuery(LayerQuery, Family),
     /// A query of a status group that changes nothing.
     GroupQuery(GroupQuery, StatusGroup),
-    /// A query that takes what it tells out of the status.
+    /// A query that takes its answer out of the status.
     ReadOut(StatusRead),
     /// A layer's signal.
     Signal(Family),
@@ -73,7 +73,7 @@ pub enum Whole {
     Slot(SlotQuery),
 }
 
-/// The nodes below which trigger layers stand: ARM has several, by the number in the header, and TRIGger is one.
+/// The nodes of trigger layers: ARM has several, by the number in the header, and TRIGger is one.
 #[derive(Clone, Copy, Debug, PartialEq, Eq)]
 pub enum Family {
     Arm,

@@ -20,7 +20,7 @@ use sw_base::{
     read_mantissa,
 };
 
-/// Whether only letters stand there, after white space.
+/// Whether the text has only letters, after white space.
 fn is_suffix(text: &[u8]) -> bool
     ensures { IsTrue result ↔ ((gap suffix : List ℕ) × Spans is_blank text.now gap suffix × AllPass is_letter suffix) }
 {

@@ -138,7 +138,7 @@ fn judged(
     }
 }
 
-/// Whether a plan is made of the scan, whose code is the listing's.
+/// Whether a plan of the scan has the listing's code.
 fn plans(rt: &impl Abort, alloc: Global) -> Result<(), Fail> {
     let scan = snapshot(alloc, b"(@1!1&1601,9!2)", &[Chan::new(16, 2)])?;
     let plan = Plan::make(alloc, BoxedSnapshot::new(alloc, scan)?)?;

@@ -29,7 +29,7 @@ fn path_behind(alloc: Global, unit: &RawUnit<'_>) -> Path {
     path
 }
 
-/// The path that the first unit of a message leaves, and what stands behind it.
+/// The path that the first unit of a message leaves, and what follows it.
 fn path_and_rest(alloc: Global, message: &[u8]) -> Result<(Path, &[u8]), ScpiError> {
     match next_unit(message, &mut Elements::new())? {
         Some((unit, rest)) => Ok((path_behind(alloc, &unit), rest)),

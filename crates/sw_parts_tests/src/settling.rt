@@ -1,5 +1,5 @@
-//! The code of scans whose positions settle: its listing, and that of the longest list with every wait and pause that a
-//! scan can have, which has room, and is verified once it was printed and read.
+//! The code of scans that let positions settle: its listing, and that of the longest list with every wait and pause
+//! that a scan can have, which has room, and which the check accepts after printing and reading.
 
 use std::alloc::Global;
 use std::process::Abort;

@@ -73,7 +73,7 @@ fn set_count(scan: &mut Snapshot, name: LayerName, count: u32) -> Result<(), Scp
     scan.settings.scan.set_count(name, count)
 }
 
-/// Whether the check says that of a scan with so many passes.
+/// Whether the check says that of a scan with `count` passes.
 fn gives_with(
     scan: &mut Snapshot,
     count: u32,
@@ -183,7 +183,7 @@ fn readings_fit_the_points(rt: HostRuntime) -> Result<(), Fail> {
     result
 }
 
-/// What a layout tells of its slots.
+/// What a layout says of its slots.
 fn tell(rt: &impl Abort, layout: &Layout) {
     assert_eq!(rt; layout.group(Chan::new(3, 10)), 1);
     assert_eq!(rt; layout.group(Chan::new(3, 11)), 0);

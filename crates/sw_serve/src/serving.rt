@@ -35,12 +35,13 @@ use sw_workers::{
     WorkReceivers, close_down, run_card_worker, run_session, run_timer_worker,
 };
 
-/// Takes so many connections, or fewer where the port ends, each served by a thread of its own over these cards, and
-/// then closes down. A connection that fails counts; one for which there is no memory or no thread is closed. Once the
-/// port has ended the scan that runs is ended and every relay opened, each session ends after the message that it is in,
-/// and one that goes on for 0.7 seconds is cut off. Once all have ended, a scan that they began meanwhile is ended too.
+/// Takes `limit` connections, or fewer where the port ends, each served by a thread of its own over these cards, and
+/// then closes down. A connection that fails counts. The server closes a connection for which there is no memory or no
+/// thread. Once the port has ended, the server ends the scan that runs and opens every relay. Each session ends after
+/// its current message; one that continues for 0.7 seconds is cut off. Once all have ended, the server also ends a scan
+/// that they began meanwhile.
 ///
-/// Where the mainframe refuses a card, the first such is told, and no connection is taken.
+/// Where the mainframe refuses a card, the error names the first such, and no connection is taken.
 pub fn serve_cards<
     R: Relay + Send + 'static,
     M: Meter + Send + 'static,
@@ -75,7 +76,7 @@ pub fn serve_cards<
     Ok(closed)
 }
 
-/// Takes so many connections over a mainframe that has a name, or fewer where the port ends, and then closes it down.
+/// Takes `limit` connections over a mainframe that has a name, or fewer where the port ends, and then closes it down.
 pub fn serve_over<
     H: Mainframe + Send + Sync + 'static,
     R: Relay + Send + 'static,
@@ -127,7 +128,8 @@ pub fn serve_over<
 /// What a thread gives back.
 type Left<H, R, M, G, W> = Option<SharedDesk<H, R, M, G, W>>;
 
-/// Starts a thread for measurements and one for pauses. Where there is none, who has such work carries it out.
+/// Starts a thread for measurements and one for pauses. Where there is none, the thread that has such work carries it
+/// out.
 fn start_workers<
     H: Mainframe + Send + Sync + 'static,
     R: Relay + Send + 'static,
@@ -168,8 +170,8 @@ fn wait_out<H: Mainframe, R: Relay, M: Meter, G: Gate + Drop, W: Wait + Clock + 
     Some(run_timer_worker(desk, pauses))
 }
 
-/// Takes so many connections, and starts a thread for each, or fewer where the port ends, and tells whether it has
-/// ended. Threads that ended are joined before the next one starts, so that their desks serve again.
+/// Takes `limit` connections, or fewer where the port ends, and starts a thread for each. It gives whether the port has
+/// ended. It joins the threads that ended before it starts the next one, so that their desks serve again.
 fn serve_each<
     H: Mainframe + Send + Sync + 'static,
     R: Relay + Send + 'static,
@@ -203,7 +205,7 @@ fn serve_each<
     false
 }
 
-/// What comes to the port next but aborts, each of which is done at once.
+/// The next arrival at the port but aborts. It carries each abort out at once.
 fn next_arrival<
     H: Mainframe,
     R: Relay,
@@ -226,12 +228,12 @@ fn next_arrival<
     unreachable!()
 }
 
-/// How often it is looked whether all sessions have ended, and how many milliseconds lie between.
+/// How often the server looks whether all sessions have ended, and how many milliseconds lie between.
 const LOOKS: u32 = 70;
 
 const LOOK_MS: u64 = 10;
 
-/// Ends the sessions: each after the message that it is in, and after 0.7 seconds at once.
+/// Ends the sessions: each after its current message, and after 0.7 seconds at once.
 fn end_sessions<
     H: Mainframe + Send + Sync + 'static,
     R: Relay + Send + 'static,
@@ -250,7 +252,7 @@ fn end_sessions<
     pool.end_lines(true);
 }
 
-/// Starts a thread for a connection. Where there is no memory or no thread to be had, the connection is closed.
+/// Starts a thread for a connection. Where there is no memory or no thread, it closes the connection.
 fn welcome<
     H: Mainframe + Send + Sync + 'static,
     R: Relay + Send + 'static,
@@ -300,7 +302,7 @@ fn attend<
     Some(run_session(connection, desk, alloc))
 }
 
-/// The desk of a connection that was served, which is told its end.
+/// The desk of a connection that was served. It reports to the connection's log that the connection has left.
 fn desk_of<
     H: Mainframe,
     R: Relay,
@@ -320,7 +322,7 @@ fn desk_of<
     Some(desk)
 }
 
-/// Joins the threads that told of their end.
+/// Joins the threads that reported their end.
 fn join_ended<
     H: Mainframe + Send + Sync + 'static,
     R: Relay + Send + 'static,

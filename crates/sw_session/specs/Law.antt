@@ -62,11 +62,11 @@ TalkIsDetermined = (sid : Sid) (macros : Table) (text : List ℕ) (trace trace' 
     → TalksMessage sid macros text trace' bytes' kept' → AllAmple trace → AllAmple trace'
     → SameTalk (left bytes kept) (left bytes' kept') trace trace'
 
--- the mainframe tells of no want of memory
+-- the mainframe reports no want of memory
 abbrev pub TellsPlainly : SessionAnswer → Type 0
 TellsPlainly answer = (work : Option WorkSeen) → IsPlain (SaysSession answer work)
 
--- nor of a key of a lock that found no memory
+-- nor a key of a lock that found no memory
 abbrev pub KeepsKeys : SessionAsk → SessionAnswer → Type 0
 KeepsKeys ask answer = (p : Panel) (work : Option WorkSeen) → KeepsKey p (AskSession ask) (SaysSession answer work)
 
@@ -87,13 +87,13 @@ abbrev pub carried_of : (old : DeskSeen) (trace : List Entry) (new : DeskSeen) �
 carried_of old [] new l = []
 carried_of old (e ∷ trace) new (mid, passes, l) = passes.0 ∷ carried_of mid trace new l
 
--- What is up to the world: what a measurement came to, and what came of the cards in a call of the mainframe: their
+-- What is up to the world: the outcome of a measurement, and what the cards did in a call of the mainframe: their
 -- failures, and what else the state leaves open of its answer.
 pub data Outcome : Type 0 where
   Measured : (outcome : Result Reading CardFault) → Outcome
   Cards : (failures : FailuresAfter) → (left : LeftOpen) → Outcome
 
--- what was measured, if it is a measurement that is told
+-- the outcome of a measurement, where the ask reports one
 abbrev pub measured : AskSeen → List Outcome
 measured (AskFinished done) = Measured done.outcome ∷ []
 measured ask = []
@@ -132,9 +132,9 @@ outcomes_in_talk {old} {new} t = outcomes_of old.desk t.trace new.desk t.leads
 abbrev pub IsSameDesk : DeskSeen → DeskSeen → Type 0
 IsSameDesk d d' = but_room d ≡ but_room d'
 
--- Over a mainframe the message, the macros, the outcomes of the measurements that are carried out and what came of the
--- cards determine what is asked, answered and written, the desk that is left, whatever its room, and the macros, where
--- no growth was refused.
+-- Over a mainframe the message, the macros, the outcomes of the measurements that are carried out and what the cards
+-- did determine what is asked, answered and written, the desk that is left but for its room, and the macros, where no
+-- growth was refused.
 abbrev pub CoreTalkIsDetermined : Type 0
 CoreTalkIsDetermined = (sid : Sid) (old old' new new' : TalkState DeskSeen) (message bytes bytes' : List ℕ)
     (t : Talked CorePasses sid old message bytes new) (t' : Talked CorePasses sid old' message bytes' new')
@@ -153,8 +153,8 @@ carried_at_rest {old} {new} r = carried_of old (waits_of r) new r.leads
 abbrev pub outcomes_at_rest : {old new : DeskSeen} → WaitsOut old true new → List Outcome
 outcomes_at_rest {old} {new} r = outcomes_of old (waits_of r) new r.leads
 
--- A rest that succeeds leaves one desk, whatever its room, for what is measured and what came of the cards, where no
--- growth was refused.
+-- What is measured and what the cards did determine the desk that a rest that succeeds leaves, but for its room, where
+-- no growth was refused.
 abbrev pub CoreRestIsDetermined : Type 0
 CoreRestIsDetermined = (d d' e e' : DeskSeen) (r : WaitsOut d true e) (r' : WaitsOut d' true e') → IsSameDesk d d'
     → AllSmooth (waits_of r) (carried_at_rest r) → AllSmooth (waits_of r') (carried_at_rest r')

@@ -13,7 +13,7 @@ use sw_core::AnswerText;
 use sw_lex::{AllMacros, Definition, MacroCommand, block_of};
 use sw_macro::Macros;
 
-/// What a command comes to: its answer, if it has one, or its refusal.
+/// The outcome of a command: its answer, if it has one, or its refusal.
 pub type Outcome = Result<Option<AnswerText>, ScpiError>;
 
 /// What a command of all macros does.
@@ -105,7 +105,7 @@ fn labels_text(alloc: Global, macros: &Macros) -> Result<Sequence<u8>, AllocErro
     Ok(Sequence::new(text))
 }
 
-/// Adds a label in double quotes, behind a comma where labels stand before it.
+/// Adds a label in double quotes, behind a comma where there are labels before it.
 fn add_label(text: &mut Vec<u8>, label: &[u8]) -> Result<(), AllocError>
     ensures { OnOk result ((before : List (List ℕ)) → text.old.items ≡ row_of before
         → text.new.items ≡ row_of (before ++ label.now ∷ [])) }

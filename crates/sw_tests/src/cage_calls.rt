@@ -109,7 +109,7 @@ pub fn begin<R: Relay, M: Meter>(
     }
 }
 
-/// The settings of a scan of these channels with so many readings.
+/// The settings of a scan of these channels with `count` readings.
 pub fn settings_of(alloc: Global, chans: &[Chan], count: u32) -> Result<Settings, ScpiError> {
     let mut settings = Settings::new(alloc);
     let set = set(alloc, &mut settings, chans, count);

@@ -22,11 +22,11 @@ pub record IsReadyBySettings (p : Snapshot) : Type 0 where
   pub measured : has_meter p.layout p.settings.scan.meter ≡ true
   pub sound : IsSound p.layout (is_among p.closed) p.settings.scan.points (settled.agenda p.settings.scan)
 
--- the channel is closed already, or shares a nonzero group with a closed one, in whatever slot that is
+-- the channel is closed already, or shares a nonzero group with a closed one of any slot
 abbrev pub IsBlocked : Layout → Channels → Channel → Type 0
 IsBlocked layout closed c = (closed c ≡ true) ⊎ ((x : Channel) × (closed x ≡ true) × IsClash layout c x)
 
--- a channel of the position is so, those before it being closed then
+-- a channel of the position is blocked, with those before it closed then
 abbrev pub IsBlockedAt : Layout → Channels → Position → Type 0
 IsBlockedAt layout closed [] = ⊥
 IsBlockedAt layout closed (c ∷ p) = IsBlocked layout closed c ⊎ IsBlockedAt layout (with_channel c closed) p

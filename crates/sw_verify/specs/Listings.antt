@@ -1,4 +1,4 @@
--- What is said of a listing: whether its scan may be done with these cards, while these channels are closed (own).
+-- The judgement of a listing: whether its scan may be done with these cards, while these channels are closed (own).
 use Rattle.std.specs.Prelude.{◌≡◌, ◌≢◌, ℕ, Bool, true, false, List, ◌++◌, Ok, Err, ◌⊎◌, codes, decimal}
 use Rattle.sw_base.specs.Layout.{Layout, Channel}
 use Rattle.sw_code.specs.declared.fault.ListError.{ListError}
@@ -20,7 +20,7 @@ refused_line r = codes "refused " ++ (decimal (refusal_number r) ++ (codes " " +
 abbrev pub faulty_line : ListError → List ℕ
 faulty_line e = codes "line " ++ (decimal e.line ++ (codes ": " ++ fault_name e.kind))
 
--- The text lists a code that unfolds to items that are sound here, and the line tells their counts.
+-- The text lists a code that unfolds to items that are sound here, and the line has their counts.
 pub record IsAccepted (layout : Layout) (closed : List Channel) (room : ℕ) (text line : List ℕ) : Type 0 where
   pub code : Program
   pub listed : code_in text ≡ Ok code
@@ -28,8 +28,8 @@ pub record IsAccepted (layout : Layout) (closed : List Channel) (room : ℕ) (te
   pub verified : IsVerified layout (is_among closed) room code judged
   pub told : line ≡ accepted_line judged.bound judged.readings
 
--- The text lists a code, and the line tells the first cause for which it is refused here. Want of memory is none: it
--- says nothing of a listing.
+-- The text lists a code, and the line names the first cause for which the check refuses it here. Lack of memory is
+-- none: it says nothing of a listing.
 pub record IsRefusedListing (layout : Layout) (closed : List Channel) (room : ℕ) (text line : List ℕ) : Type 0 where
   pub code : Program
   pub listed : code_in text ≡ Ok code
@@ -38,13 +38,13 @@ pub record IsRefusedListing (layout : Layout) (closed : List Channel) (room : �
   pub named : cause ≢ NoMemory
   pub told : line ≡ refused_line cause
 
--- The text lists no code, and the line tells its first fault.
+-- The text lists no code, and the line names its first fault.
 pub record IsFaulty (text line : List ℕ) : Type 0 where
   pub error : ListError
   pub listed : code_in text ≡ Err error
   pub told : line ≡ faulty_line error
 
--- what is said of a text
+-- the judgement of a text
 abbrev pub Says : Layout → List Channel → ℕ → Bool → List ℕ → List ℕ → Type 0
 Says layout closed room true text line = IsAccepted layout closed room text line
 Says layout closed room false text line = IsRefusedListing layout closed room text line ⊎ IsFaulty text line

@@ -20,7 +20,7 @@ use Rattle.sw_verify.specs.Runnable.{IsRunnable}
 use Rattle.sw_verify.specs.Setup.{running}
 use Rattle.sw_verify.specs.Check.{IsReadyBySettings, IsFirst}
 
--- whether a layer of this source awaits something: with IMMediate it goes on at once (SCPI-1999, 24)
+-- whether a layer of this source awaits something: with IMMediate the scan leaves it at once (SCPI-1999, 24)
 abbrev pub awaits_something : Source → Bool
 awaits_something source.Immediate = false
 awaits_something source.Bus = true

@@ -4,12 +4,12 @@ use Rattle.sw_code.specs.declared.code.Step.{Step}
 use Rattle.sw_code.specs.declared.code.Step.TheVariants as step
 use Rattle.sw_verify.specs.declared.size.Opened.{Opened}
 
--- the innermost open loop ends, whose body did so many items; what goes on with those of all its turns
+-- the innermost open loop ends, after its body did this many items; the function continues with those of all its turns
 abbrev pub size_at_end : List Opened → ℕ → (ℕ → List Opened → ℕ) → ℕ
 size_at_end [] here go = 0
 size_at_end (o ∷ os) here go = go (o.before + o.count * here) os
 
--- how many items there are up to halt, where the innermost open loop did so many so far
+-- how many items there are up to halt, where the innermost open loop did this many so far
 abbrev pub size_from : List Step → ℕ → List Opened → ℕ
 size_from [] here os = 0
 size_from (step.Set k n ∷ steps) here os = size_from steps 0 (record { count = n; before = here } ∷ os)
@@ -24,7 +24,7 @@ size_from (step.Halt ∷ steps) here os = here
 
 -- ---- why there are too many
 
--- what stands before the open loops, all together
+-- the items before all the open loops, added up
 abbrev pub before_all : List Opened → ℕ
 before_all [] = 0
 before_all (o ∷ os) = o.before + before_all os

@@ -1,5 +1,5 @@
-//! Why a listing is refused, in plain words. Nothing is promised of them but that they come from the first step that the
-//! verifier refuses for that cause.
+//! Why a listing is refused, in plain words. The crate promises of them only that they come from the first step that
+//! the verifier refuses for that cause.
 
 use crate::layout::Layout;
 use crate::refusal::Refusal;

@@ -1,4 +1,4 @@
-//! What is so of every scan that passes the check, while the cards stay and nobody else closes a channel.
+//! What holds of every scan that passes the check, while the cards stay and nothing else closes a channel.
 
 ghost use Rattle.std.specs.Prelude.{◌≡◌, ℕ, ◌≤◌, take, None};
 ghost use Rattle.sw_base.specs.Layout.{Channel, IsExclusive};

@@ -1,4 +1,4 @@
-//! What is said of a listing: whether its scan may be done with the cards of a cage, and why not.
+//! The judgement of a listing: whether its scan may be done with the cards of a cage, and why not.
 
 ghost use Rattle.std.specs.Prelude.{◌≡◌, ℕ, List, false, true, None, Ok, Err, IfOk, string_bytes};
 ghost use Rattle.sw_base.specs.Layout.{Layout as Cards, Channel};
@@ -13,7 +13,7 @@ use std::alloc::{AllocError, Global};
 use sw_base::Chan;
 use sw_code::{Code, ListError, ListFault, explain_fault, read_listing};
 
-/// What is said of a listing.
+/// The judgement of a listing.
 #[derive(Debug, Drop)]
 pub struct Judgement {
     /// Whether its scan may be done.
@@ -26,7 +26,7 @@ pub struct Judgement {
     pub cause: Option<String>,
 }
 
-/// What is said of the text of a listing, against these cards, while these channels are closed and there is room for
+/// The judgement of the text of a listing, against these cards, while these channels are closed and there is room for
 /// `points` readings. It looks at each step four times at most, however often the loops make it.
 pub fn judge_listing(
     alloc: Global,
@@ -47,7 +47,7 @@ pub fn judge_listing(
     }
 }
 
-/// What is said of a text that lists no code.
+/// The judgement of a text that lists no code.
 fn faulty(alloc: Global, text: &[u8], error: ListError) -> Result<Judgement, AllocError>
     requires listed { code_in text.now ≡ Err error }
     ensures says { (cards : Cards) (closed : List Channel) (points : ℕ) → IfOk result
@@ -63,7 +63,7 @@ fn faulty(alloc: Global, text: &[u8], error: ListError) -> Result<Judgement, All
     })
 }
 
-/// What is said of a text that lists this code.
+/// The judgement of a text that lists this code.
 fn judge_code(
     alloc: Global,
     text: &[u8],
@@ -103,7 +103,7 @@ fn refused(alloc: Global, refusal: Refusal, cause: Option<String>) -> Result<Jud
     })
 }
 
-/// What is said of a code with these counts.
+/// The judgement of a code with these counts.
 fn accepted(alloc: Global, bound: u128, readings: u128) -> Result<Judgement, AllocError>
     ensures line { IfOk result (λ j. string_bytes j.line ≡ accepted_line bound readings) }
     ensures accepted { IfOk result (λ j. j.accepted ≡ true) }

@@ -10,7 +10,7 @@ use sw_code::Step;
 /// How many steps only count, at most, before the first item of a code and between two.
 const MOST_COUNTING: u8 = 2 * COUNTERS;
 
-/// Whether before the first item, and between two, few steps only count, whichever way the loops go.
+/// Whether before the first item, and between two, few steps only count, whichever way the loops branch.
 pub fn is_paced(steps: &[Step]) -> bool
     ensures { IsTrue result ↔ IsPaced steps.now most_counting }
 {
@@ -25,7 +25,7 @@ pub fn is_paced(steps: &[Step]) -> bool
     true
 }
 
-/// Whether from the step of this number on at most so many only count before one does more, or there is none.
+/// Whether from the step at `at` on at most `most` only count before one does more, or there is none.
 fn is_near(steps: &[Step], most: u8, at: usize) -> bool
     ensures { IsTrue result ↔ IsNear steps.now most at }
 {

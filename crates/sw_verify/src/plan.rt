@@ -181,7 +181,7 @@ fn settings_code(alloc: Global, snapshot: &Snapshot) -> Result<Verified, Refusal
 }
 
 /// The code of the settings, which pass the check where it is verified. Where the scan may begin, the verifier refuses
-/// none but for want of memory.
+/// none but for lack of memory.
 fn compiled_code(alloc: Global, snapshot: &Snapshot) -> Result<Verified, Refusal>
     ensures ready { IfOk result (λ v. IsReadyBySettings snapshot.now) }
     ensures code { IfOk result (λ v. v.code ≡ compiled snapshot.now.settings.scan) }

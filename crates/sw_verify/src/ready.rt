@@ -15,7 +15,7 @@ use crate::snapshot::Snapshot;
 use sw_base::Chan;
 use sw_channel::Position;
 
-/// Whether the scan of the settings may begin, whatever the program; else the first refusal that applies, and never
+/// Whether the scan of the settings may begin, under any program; else the first refusal that applies, and never
 /// `NoMemory`.
 ///
 /// It looks at each position that the scan uses once, and at each closed channel once.

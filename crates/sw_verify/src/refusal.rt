@@ -28,7 +28,7 @@ pub enum Refusal {
     NotClosed,
     /// Memory ran out.
     NoMemory,
-    /// A program awaits a trigger of a layer whose source is IMMediate, which none would ever be.
+    /// A program awaits a trigger of a layer with the source IMMediate; no trigger would ever be of it.
     NoSource,
 }
 
@@ -71,7 +71,7 @@ impl Refusal {
         }
     }
 
-    /// The error that INITiate answers: -241 for an absent channel or meter, -225 for want of memory, else -221.
+    /// The error that INITiate answers: -241 for an absent channel or meter, -225 for a lack of memory, else -221.
     pub fn error(self) -> ScpiError
         ensures { result ≡ error_of self }
     {

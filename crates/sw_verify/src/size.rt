@@ -8,20 +8,20 @@ use crate::stack::Stack;
 use std::alloc::{AllocError, Global};
 use sw_code::Step;
 
-/// Where an open loop began: its count, and how many items stood before it.
+/// Where an open loop began: its count, and how many items are before it.
 #[derive(Clone, Copy, Debug, PartialEq, Eq)]
 pub struct Opened {
     pub count: u32,
     pub before: u64,
 }
 
-/// What stands in the room of loops that are not open.
+/// What fills the room of loops that are not open.
 const NOT_OPENED: Opened = Opened {
     count: 0,
     before: 0,
 };
 
-/// How many items the steps, whose loops are nested, do up to halt; nothing where 64 bits hold no such number.
+/// How many items the steps, with nested loops, do up to halt; nothing where 64 bits hold no such number.
 #[tactic(auto, using(crate::proofs::SizedLemmas::size_of_all))]
 pub fn size(alloc: Global, steps: &[Step]) -> Result<Option<u64>, AllocError>
     requires closes { Closes steps.now 0 }
@@ -71,7 +71,7 @@ fn size_by_loops(alloc: Global, steps: &[Step]) -> Result<Option<u64>, AllocErro
     Ok(Some(0))
 }
 
-/// How many items all turns of a loop do and what stood before it; nothing where 64 bits don't hold that.
+/// How many items all turns of a loop do, with those before it; nothing where 64 bits don't hold that.
 fn all_turns(opened: Opened, body: u64) -> Option<u64>
     ensures all { IfSome result (λ n. n ≡ opened.before + opened.count * body) }
     ensures many { IfNone result (2 ^ 64 ≤ opened.before + opened.count * body) }

@@ -16,7 +16,7 @@ pub struct Snapshot {
     pub closed: Sequence<Chan>,
 }
 
-/// A snapshot in a box, so that it is handed on cheaply. Contracts see the snapshot.
+/// A snapshot in a box, cheap to move. Contracts see the snapshot.
 #[derive(Debug, Drop)]
 pub struct BoxedSnapshot {
     kept: Box<Snapshot>,

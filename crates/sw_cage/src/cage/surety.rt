@@ -7,8 +7,8 @@ use crate::cage::Cage;
 use sw_card::{Meter, Relay};
 
 impl<R: Relay, M: Meter> Cage<R, M> {
-    /// Whether every card can say that its relays stand as its account says, a relay card by its own word. A meter has
-    /// none, in its slot or out, and an empty slot has none.
+    /// Whether every card is sure that its relays are as its account says, a relay card by its own answer. A meter has
+    /// no relays, in its slot or out, and an empty slot has none.
     pub fn is_sure(&self) -> bool
         ensures { result ≡ all_sure R.sure self.now.cards }
     {

@@ -269,7 +269,7 @@ impl<R: Relay, M: Meter> Slots<R, M> {
         Ok(())
     }
 
-    /// Lets each channel of the list claim its group, unless another channel has it.
+    /// Claims for each channel of the list its group, unless another channel has it.
     fn claim_listed(&self, chans: &[Chan], claims: &mut Claims) -> bool
         requires present { all_present (layout_of (accounts_of self.now)) chans.now ≡ true }
         requires held { IndexesClaims (layout_of (accounts_of self.now))
@@ -400,7 +400,7 @@ impl<R: Relay, M: Meter> Slots<R, M> {
         self.claims.keep_closed(&self.slots);
     }
 
-    /// What the slot holds, as a layout tells it.
+    /// What the slot holds, as a layout has it.
     pub(crate) fn contents(&self, alloc: Global, slot: u8) -> Result<Slot, AllocError>
         requires { (1 ≤ slot) × (slot ≤ most_slots) }
         ensures { IfOk result (λ contents. contents ≡ slot_at (layout_of (accounts_of self.now)) slot) }
@@ -408,7 +408,7 @@ impl<R: Relay, M: Meter> Slots<R, M> {
         slot::contents_in(alloc, &self.slots[slot as usize - 1])
     }
 
-    /// Whether the slot holds what the layout's slot tells.
+    /// Whether the slot holds what the layout's slot says.
     pub(crate) fn is_as(&self, slot: u8, contents: &Slot) -> bool
         requires { (1 ≤ slot) × (slot ≤ most_slots) }
         ensures { IsTrue result ↔ (contents.now ≡ slot_at (layout_of (accounts_of self.now)) slot) }
@@ -422,7 +422,7 @@ impl<R: Relay, M: Meter> Slots<R, M> {
         ensures range { (c : Channel) → is_closed (accounts_of self.now) c ≡ true
             → (1 ≤ c.0) × (c.0 ≤ most_slots) × (1 ≤ c.1) × (c.1 ≤ most_channels) }
     {
-        // Reading a field tells the proof what holds of every `Slots`.
+        // Reading a field gives the proof what holds of every `Slots`.
         let _ = &self.slots;
     }
 }

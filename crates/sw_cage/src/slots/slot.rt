@@ -1,4 +1,4 @@
-//! What is done with one slot and its card.
+//! The calls on one slot and its card.
 
 ghost use Rattle.std.specs.Prelude.{◌≡◌, ℕ, ◌≤◌, length, true, false, None, Some, OnOk, OnErr, IfOk, ◌↔◌, IsTrue};
 ghost use Rattle.std.proofs.Common.{inr};
@@ -260,7 +260,7 @@ fn groups<R: Relay, M: Meter>(alloc: Global, card: &Card<R, M>) -> Result<Vec<u8
     Ok(groups)
 }
 
-/// What the slot holds, as a layout tells it.
+/// What the slot holds, as a layout has it.
 pub(super) fn contents_in<R: Relay, M: Meter>(
     alloc: Global,
     slot: &CageSlot<R, M>,
@@ -292,7 +292,7 @@ fn has_groups<R: Relay, M: Meter>(card: &Card<R, M>, groups: &[u8]) -> bool
     true
 }
 
-/// Whether the slot holds what the layout's slot tells.
+/// Whether the slot holds what the layout's slot says.
 pub(super) fn is_as_in<R: Relay, M: Meter>(slot: &CageSlot<R, M>, contents: &Slot) -> bool
     ensures { IsTrue result ↔ (contents.now ≡ slot_contents (option_account slot.now)) }
 {
