@@ -31,6 +31,9 @@ class Edit:
     def label(self):
         return f"wrong/{self.crate}.edits:{self.line}: {self.name}"
 
+    def key(self):
+        return f"{self.crate}:{self.name}"
+
     def turns_definition(self):
         return any(file.startswith("specs/") for file, _, _ in self.pairs)
 

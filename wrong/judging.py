@@ -9,12 +9,7 @@ alone; one of a definition by a check of the law that it names, and no more of t
 """
 import os
 import re
-import shutil
-import subprocess
-import tempfile
 
-PARTS = ("src", "specs", "proofs")
-RT = os.environ.get("RT", "rt")
 # A proof file that names what an edit took away says nothing of the contract.
 NAMES = re.compile(r"has no field|is not in scope|has no `|was not admitted|is no name|record `[^`]*` \(nearest")
 
@@ -57,38 +52,6 @@ def fault_of(edit, folder):
     if edit.function and not edit.turns_definition() and not stands_in_its_function(edit, folder):
         return "it changes another function than its line `fn:` names"
     return None
-
-
-class Room:
-    """A copy of a crate and of what it stands on, where edits are put in and checked."""
-
-    def __init__(self, repository, crate, at, jobs):
-        self.crate, self.jobs, self.folder = crate, jobs, f"{at}/crates/{crate}"
-        self.clean = f"{repository.root}/crates/{crate}"
-        crates = repository.closure(crate)
-        with open(f"{at}/crates.txt", "w", encoding="utf-8") as it:
-            it.writelines(f"{name}: {' '.join(repository.below[name])}\n" for name in crates)
-        if os.path.isfile(f"{repository.root}/HANDLES"):
-            shutil.copy(f"{repository.root}/HANDLES", at)
-        for name in crates:
-            kept = ("out/rlib", "out/incremental") if name == crate else ("out/rlib",)
-            for part in (*PARTS, *kept):
-                if os.path.isdir(f"{repository.root}/crates/{name}/{part}"):
-                    shutil.copytree(f"{repository.root}/crates/{name}/{part}", f"{at}/crates/{name}/{part}")
-
-    def check(self, texts, only=None):
-        """What a check says of the crate with these texts in place of its own, or of one function of it."""
-        for part in ("src", "specs"):
-            shutil.rmtree(f"{self.folder}/{part}", ignore_errors=True)
-            if os.path.isdir(f"{self.clean}/{part}"):
-                shutil.copytree(f"{self.clean}/{part}", f"{self.folder}/{part}")
-        for path, text in texts.items():
-            with open(f"{self.folder}/{path}", "w", encoding="utf-8") as it:
-                it.write(text)
-        words = [RT, "check", "--jobs", str(self.jobs)] + (["--only", f"{self.crate}::{only}"] if only else [])
-        ran = subprocess.run(words, cwd=self.folder, stdin=subprocess.DEVNULL,
-                             stdout=subprocess.PIPE, stderr=subprocess.STDOUT, text=True, errors="replace")
-        return Said(self.crate, ran.returncode, ran.stdout.split("\n"))
 
 
 class Said:
@@ -147,6 +110,12 @@ class Said:
         return next((it for it in self.lines if ": error" in it), self.lines[0] if self.lines else "")[:160]
 
 
+def said_of(room, texts, only=None):
+    """What a check says of the crate with these texts in place of its own, or of one function of it."""
+    status, lines = room.check(texts, only)
+    return Said(room.crate, status, lines)
+
+
 def batches_of(edits, folder):
     """The edits in groups that can be put in at once: each of a function of its own."""
     batches = []
@@ -165,7 +134,7 @@ def batches_of(edits, folder):
 
 
 def try_alone(room, edit):
-    said = room.check(applied(edit, {}, room.clean))
+    said = said_of(room, applied(edit, {}, room.clean))
     if said.is_proved:
         return False, "NOT REFUSED: the crate is still proved with this edit"
     if not said.is_judged:
@@ -178,7 +147,7 @@ def try_alone(room, edit):
 
 
 def try_definition(room, edit):
-    said = room.check(applied(edit, {}, room.clean), edit.function)
+    said = said_of(room, applied(edit, {}, room.clean), edit.function)
     why = said.refusal_of_law(edit.function) if said.is_read else None
     if why:
         return True, f"refused alone: {why}"
@@ -188,54 +157,54 @@ def try_definition(room, edit):
 
 
 def try_batch(room, group):
-    """Pairs of an edit and what became of it, for one group: None where the check didn't come to its function."""
+    """Each edit of one group and what became of it: None where the check didn't come to its function."""
     edits = group["edits"]
     if len(edits) == 1:
-        return [(edits[0], try_alone(room, edits[0]))]
-    said = room.check(group["texts"])
+        yield edits[0], try_alone(room, edits[0])
+        return
+    said = said_of(room, group["texts"])
     if not said.is_judged:
-        halves = edits[: len(edits) // 2], edits[len(edits) // 2 :]
-        return [pair for half in halves for part in batches_of(half, room.clean) for pair in try_batch(room, part)]
-    found = []
+        for half in (edits[: len(edits) // 2], edits[len(edits) // 2 :]):
+            for part in batches_of(half, room.clean):
+                yield from try_batch(room, part)
+        return
+    alone = []
     for edit in edits:
         why = said.refusal(edit.function)
         if why:
-            found.append((edit, (True, f"refused: {why}")))
+            yield edit, (True, f"refused: {why}")
         elif said.is_left_over(edit.function):
-            found.append((edit, None))
+            yield edit, None
         else:
-            found.append((edit, try_alone(room, edit)))
-    return found
+            alone.append(edit)
+    yield from ((edit, try_alone(room, edit)) for edit in alone)
 
 
 def try_together(room, edits, folder):
-    """Pairs of an edit and what became of it, for edits that each name their function."""
-    found = []
+    """Each edit and what became of it, for edits that each name their function, as soon as it is known."""
     while edits:
-        tried = [pair for group in batches_of(edits, folder) for pair in try_batch(room, group)]
-        found += [pair for pair in tried if pair[1]]
-        left = [edit for edit, became in tried if not became]
+        left = []
+        for group in batches_of(edits, folder):
+            for edit, became in try_batch(room, group):
+                if became:
+                    yield edit, became
+                else:
+                    left.append(edit)
         if len(left) == len(edits):
-            return found + [(edit, try_alone(room, edit)) for edit in left]
+            yield from ((edit, try_alone(room, edit)) for edit in left)
+            return
         edits = left
-    return found
 
 
-def try_edits(repository, crate, edits, jobs):
-    """Lines to print, and how many of a crate's edits were refused and how many were not."""
-    folder = f"{repository.root}/crates/{crate}"
-    faults = [(edit, fault_of(edit, folder)) for edit in edits]
-    lines = [f"{edit.label()}: BAD EDIT: {fault}" for edit, fault in faults if fault]
-    good, bad = [edit for edit, fault in faults if not fault], len(lines)
-    if not good:
-        return lines, 0, bad
-    with tempfile.TemporaryDirectory(prefix="wrong-", ignore_cleanup_errors=True) as at:
-        room = Room(repository, crate, at, jobs)
-        if not room.check({}).is_proved:
-            return [f"{crate}: NOT PROVED as it stands, so its wrong bodies say nothing"], 0, len(edits)
-        found = try_together(room, [it for it in good if it.function and not it.turns_definition()], folder)
-        found += [(it, try_alone(room, it)) for it in good if not it.function]
-        found += [(it, try_definition(room, it)) for it in good if it.turns_definition()]
-    lines += [f"{edit.label()}: {text}" for edit, (_, text) in found]
-    passed = sum(is_refused for _, (is_refused, _) in found)
-    return lines, passed, bad + len(found) - passed
+def try_edits(room, edits):
+    """Each edit, whether it is refused, and what is told of it, as soon as it is known; none of an unproved crate."""
+    faults = [(edit, fault_of(edit, room.clean)) for edit in edits]
+    yield from ((edit, False, f"BAD EDIT: {fault}") for edit, fault in faults if fault)
+    good = [edit for edit, fault in faults if not fault]
+    if not good or not said_of(room, {}).is_proved:
+        return
+    together = [it for it in good if it.function and not it.turns_definition()]
+    yield from ((edit, *became) for edit, became in try_together(room, together, room.clean))
+    for edit in good:
+        if not edit.function or edit.turns_definition():
+            yield edit, *(try_definition if edit.turns_definition() else try_alone)(room, edit)

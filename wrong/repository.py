@@ -1,10 +1,12 @@
-"""The crates of the repository, their wrong bodies, and the record of those that were all refused.
+"""The crates of the repository, their wrong bodies, and the record of those that were refused.
 
-wrong/record has a hash for each such crate: of the crate, of what it sees of the crates below it (seen.py), of its
-edits as they are read, of what judges them (judging.py) and of the kit's logic. By these alone an edit is refused or
-not, so neither the crate's tests, which no check of an edit reads, nor the form of an edits file nor the other scripts
-count.
+wrong/record has a hash for each such body: of the edit as it is read, of what the prover sees in judging the function
+that it turns (seen.py), of what judges it (judging.py), of the kit's logic and of the kit's libraries that the crate
+names. By these alone an edit is refused or not. So the bodies and proofs of other functions, tests, comments, the form
+of an edits file, where a check takes place (rooms.py) and the other scripts don't count.
+An edit that names no function, or turns a definition or more than the text of one function, counts the whole crate.
 """
+import fcntl
 import hashlib
 import os
 import subprocess
@@ -19,7 +21,7 @@ RT = os.environ.get("RT", "rt")
 class Repository:
     def __init__(self, root):
         self.root = root
-        self.crates = None
+        self.crates = self.judging = self.known = None
         self.below = {}
         with open(f"{root}/crates.txt", encoding="utf-8") as lines:
             for line in lines:
@@ -54,20 +56,21 @@ class Repository:
             elif os.path.isdir(f"{self.root}/wrong/{name}") and name != "__pycache__":
                 yield name, f"a folder; the wrong bodies of a crate are in wrong/{name}.edits"
 
-    def hash_of(self, crate):
-        """The hash of all by which the crate's edits are refused or not, as it was at the first call."""
+    def hash_of(self, edit):
+        """The hash of all by which an edit is refused or not, by the texts as they were at the first call."""
         if not self.crates:
             self.crates = seen.Crates(self.root, self.below)
-        whole = hashlib.sha256(f"{self.logic}\n{' '.join(self.below[crate])}\n".encode())
-        with open(f"{HERE}/judging.py", encoding="utf-8") as it:
-            texts = [("judging.py", it.read())]
-        texts += [(it.name, repr((it.function, it.pairs, it.fault))) for it in self.edits(crate)]
-        files = (it for it in self.crates.files_of(crate) if not it.startswith(f"{crate}/src/tests/"))
-        texts += [(it, self.crates.texts[it]) for it in sorted(files)]
-        texts += [(it.file, it.text) for it in self.crates.seen_by(crate)]
-        for name, text in texts:
-            whole.update(f"{name}\n".encode() + hashlib.sha256(text.encode()).digest())
-        return whole.hexdigest()
+            with open(f"{HERE}/judging.py", encoding="utf-8") as it:
+                self.judging = it.read()
+        of_kit = sorted(it for it in self.below[edit.crate] if it not in self.below)
+        told = (self.logic, of_kit, self.judging, edit.function, edit.pairs, edit.fault)
+        return hashlib.sha256(repr((told, self.crates.of_edit(edit))).encode()).hexdigest()
+
+    def stale(self, edits):
+        """Those of these edits that aren't recorded as refused by what decides them now, each with its hash."""
+        record = self.record()
+        hashes = {edit: self.hash_of(edit) for edit in edits}
+        return {edit: it for edit, it in hashes.items() if record.get(edit.key()) != it}
 
     def record(self):
         try:
@@ -76,6 +79,22 @@ class Repository:
         except FileNotFoundError:
             return {}
 
-    def write_record(self, record):
-        with open(f"{self.root}/wrong/record", "w", encoding="utf-8") as it:
-            it.writelines(f"{crate} {record[crate]}\n" for crate in sorted(record) if crate in self.below)
+    def put(self, edit, kept):
+        """Records an edit as refused by this hash, or as not refused where it is None; a reader sees all or nothing."""
+        folder = os.open(f"{self.root}/wrong", os.O_RDONLY)
+        try:
+            fcntl.flock(folder, fcntl.LOCK_EX)
+            record = {key: it for key, it in self.record().items() if key in self.keys() and key != edit.key()}
+            if kept:
+                record[edit.key()] = kept
+            with open(f"{self.root}/wrong/record.new", "w", encoding="utf-8") as it:
+                it.writelines(f"{key} {record[key]}\n" for key in sorted(record))
+            os.replace(f"{self.root}/wrong/record.new", f"{self.root}/wrong/record")
+        finally:
+            os.close(folder)
+
+    def keys(self):
+        """By which words wrong/record has the wrong bodies of all crates."""
+        if self.known is None:
+            self.known = {edit.key() for crate in self.below for edit in self.edits(crate)}
+        return self.known

@@ -1,154 +1,61 @@
-"""What a crate sees of the crates below it.
+"""What the prover sees in judging one function, or a whole crate: of the crate itself and of the crates below.
 
-A function is proved against the contracts of others, never against their bodies or proofs. So of the crates below a
-crate sees the definitions, the statements of lemmas, the types with their traits, the constants, and the functions with
-their contracts and without their bodies, that its texts name, or that one of these names, and so on. What a word stands
-for is told by the `use` that brings it. Of a type that is seen, a method is seen where a source of the crate has its
-name, and every trait that it has. Comments and layout don't count.
+A function is proved against the contracts of others, never against their bodies or proofs. So the function whose body
+is turned counts whole, with its attributes, its cycle and its proof files, and of the rest what these texts name, or
+what that names, and so on: a definition, a type with its fields and its impls of traits, a trait and a constant whole,
+a lemma by its statement, a function by its head and contract. A definition outside `specs` that isn't an `abbrev`,
+`unfoldable`, `record` or `data` is opaque, and counts as a lemma does.
+What a word stands for is told by the file's own items, by the `use` that brings it, which counts too, or by the path
+that it is part of; a path that leads to no item of a file stands for all of its name in the crate. Of a type that is
+named, a method is seen where a text that has code has its name, and every trait that it has. Of the crates below,
+private methods and what a type's model hides don't count. Comments and layout don't count anywhere (texts.py).
 """
+import hashlib
 import os
 import re
 
-WORD = re.compile(r"[^\W\d](?:[\w']|-(?=[^\W\d]))*")
-USE = re.compile(r"(?m)^\s*(?:ghost |pub )*use ([^;{\n]*)(?:\{([^}]*)\})?")
-HEAD = re.compile(r"( *)(pub )?(?:pub\(\w+\) )?(?:const |unsafe |ghost )*fn (\w+)")
-DECLARED = re.compile(r"(pub )?(?:struct|enum|trait|type|const|static) (\w+)")
-IMPLEMENTED = re.compile(r"impl\b(?:<.*?>(?= ))?(?: ([\w:]+)(?:<.*>)? for)? &?(\w+)")
-DEFINED = re.compile(r"(?:(?:abbrev|pub|record|data|private|opaque) )*([^\W\d][\w'-]*)")
-# What a definition begins with, where it isn't a lemma, whose proof doesn't count.
-WHOLE = re.compile(r"(pub )?(abbrev|record|data)\b")
+from texts import Item, bodies_of, definition_items, plain, source_items, uses_of
 
-
-def words_of(text):
-    return set(WORD.findall(text))
-
-
-class Item:
-    """What may be seen of a file: its names and its text; of a method its type, and of a function whether it is public."""
-
-    def __init__(self, file, names, text, owner=None, is_called=False, is_public=True):
-        self.file, self.names, self.text, self.owner = file, names, " ".join(text.split()), owner
-        self.crate, self.words, self.is_called, self.is_public = file.split("/")[0], words_of(text), is_called, is_public
-
-
-def blocks_of(text):
-    """The pieces of a text that each begin at the margin, with the attributes before them."""
-    blocks, begun = [], []
-    for line in filter(str.strip, text.split("\n")):
-        is_head = not line[0].isspace() and not line.startswith(("}", ")", "where", "{"))
-        if is_head and begun and not all(it.startswith("#") for it in begun):
-            blocks.append(begun)
-            begun = []
-        begun.append(line)
-    return [*blocks, begun] if begun else blocks
-
-
-def functions_of(lines):
-    """The functions of a block, each as whether it is public, its name, and its head and contract; and what else it has."""
-    lines, found, rest = list(lines), [], []
-    while lines:
-        head = HEAD.match(lines[0])
-        if not head:
-            rest.append(lines.pop(0))
-            continue
-        indent, public, name = head.groups()
-        item, is_bodied = [lines.pop(0)], False
-        while True:
-            is_clause = any(re.match(r"\s*(ensures|requires|decreases|where)\b", it) for it in item)
-            is_bodied = item[-1].endswith((" {", " {}")) and not is_clause
-            if is_bodied or item[-1] in (f"{indent}{{", f"{indent}{{}}") or not lines:
-                break
-            item.append(lines.pop(0))
-        if not item[-1].endswith("{}"):
-            while lines and lines.pop(0) != f"{indent}}}":
-                pass
-        found.append((public is not None, name, "\n".join(item)))
-    return found, "\n".join(rest)
-
-
-def without_fields(text):
-    """The text of a source without what the model of a type hides."""
-    text = re.sub(r"(?m)^    ghost (?:view|invariant) = (?:.*\n)*?.*};$", "", text)
-    for name in re.findall(r"(?m)^impl\b.*\bModel for (\w+)", text):
-        declared = re.search(rf"(?m)^(?:pub )?struct {name}\b.*{{\n((?:.*\n)*?)}}", text)
-        if declared:
-            told = "\n".join(it for it in declared[1].split("\n") if it.startswith("    pub "))
-            text = text[: declared.start(1)] + told + "\n" + text[declared.end(1) :]
-    return text
-
-
-def source_items(file, text):
-    """The items of a source file."""
-    text = re.sub(r"(?m)^\s*//.*\n|^\s*#!?\[(?:tactic|inline|cycle).*\]\n|\s+//[^\"\n]*$", "", text)
-    text = re.sub(r"(?m)^\s*(?:ghost |pub )*use [^;]*;\n", "", text)
-    items = []
-    for block in blocks_of(without_fields(text)):
-        told = [it for it in block if not it.startswith("#")]
-        ends = next((at for at, it in enumerate(told) if it.endswith("{")), 0)
-        head = re.sub(r"\s+", " ", " ".join(told[: ends + 1]))
-        declared, implemented = DECLARED.match(head), IMPLEMENTED.match(head)
-        functions, rest = functions_of(block)
-        if declared:
-            items.append(Item(file, {declared[2]}, "\n".join(block), is_public=declared[1] is not None))
-        elif implemented and implemented[1]:
-            told = "\n".join([rest, *(told for _, _, told in functions)])
-            # Of every type: seen with its trait.
-            name = implemented[1].split("::")[-1] if len(implemented[2]) == 1 else implemented[2]
-            items.append(Item(file, {name}, told, owner="trait"))
-        else:
-            owner = implemented and implemented[2]
-            top = f"{head}\n" if owner else ""
-            items += [Item(file, {name}, top + told, owner, True, is_public) for is_public, name, told in functions]
-    return items
-
-
-def definition_items(file, text):
-    """The items of a file of definitions or lemmas: of a lemma the statement, of a definition all."""
-    text = re.sub(r"(?m)^\s*--.*\n|\s+-- .*$", "", text)
-    is_proofs, pieces = file.split("/")[1] == "proofs", []
-    for block in blocks_of(text):
-        name = DEFINED.match(block[0])
-        if not name or re.match(r"(pub )?(use|mod) ", block[0]):
-            continue
-        if re.match(r"(pub|abbrev|record|data|private|opaque)\b|[^\W\d][\w'-]* :", block[0]) or not pieces:
-            pieces.append((name[1], block, [], is_proofs and not WHOLE.match(block[0])))
-        else:
-            pieces[-1][2].extend(block)
-    items = []
-    for name, block, equations, is_lemma in pieces:
-        inner = {it[1] for it in (re.match(r"\s+(?:pub )?([^\W\d][\w'-]*) :", line) for line in block) if it}
-        items.append(Item(file, {name, *inner}, "\n".join(block if is_lemma else block + equations)))
-    return items
+PATH = re.compile(r"[^\W\d]\w*(?:::[^\W\d]\w*)+")
+TOP = re.compile(r"(?m)^#!\[.*$")
 
 
 class Crates:
-    """The texts of all crates, by file, and what each crate sees."""
+    """The texts of all crates, by file, and what is seen from some of them."""
 
     def __init__(self, root, below):
-        self.below, self.texts, self.items, self.uses, self.next = below, {}, {}, {}, {}
+        self.below, self.raw, self.texts, self.kept, self.next = below, {}, {}, {}, {}
         for crate in below:
             for part in ("src", "specs", "proofs"):
                 for at, _, files in os.walk(f"{root}/crates/{crate}/{part}"):
                     for file in files:
                         with open(f"{at}/{file}", encoding="utf-8") as it:
-                            self.texts[os.path.relpath(f"{at}/{file}", f"{root}/crates")] = it.read()
-        for file, text in self.texts.items():
-            self.items[file] = source_items(file, text) if file.endswith(".rt") else definition_items(file, text)
-            self.uses[file] = list(self.uses_of(text))
-        self.sources = {it: [one for file in self.files_of(it, "src/") for one in self.items[file]] for it in below}
+                            self.raw[os.path.relpath(f"{at}/{file}", f"{root}/crates")] = it.read()
+        self.raw = {it: text for it, text in self.raw.items() if "/src/tests/" not in it}
+        self.texts = {it: plain(it, text) for it, text in self.raw.items()}
+        self.files = {crate: [it for it in self.texts if it.startswith(f"{crate}/")] for crate in below}
+        self.uses = {it: list(uses_of(text)) for it, text in self.texts.items()}
 
-    def files_of(self, crate, part=""):
-        return [it for it in self.texts if it.startswith(f"{crate}/{part}")]
+    def once(self, key, make):
+        """What was made of this key, or is made now."""
+        if key not in self.kept:
+            self.kept[key] = make()
+        return self.kept[key]
 
-    @staticmethod
-    def uses_of(text):
-        """For each name that a text takes from elsewhere: the word by which it has it, and its path."""
-        for path, names in USE.findall(text):
-            base = re.findall(r"[\w'+-]+", path.partition(" as ")[0])
-            for name in names.split(",") if names.strip() else [path.partition(" as ")[2]]:
-                taken = re.findall(r"[\w'-]+", name)
-                if taken or not names.strip():
-                    yield (taken or base)[-1], [*base, *taken[:1]] if names.strip() else base
+    def items(self, file, is_own):
+        """The items of a file, as its own crate sees them or as one above."""
+        read = source_items if file.endswith(".rt") else definition_items
+        return self.once((file, is_own), lambda: read(file, self.texts[file], is_own))
+
+    def all_items(self, crate, is_own, part=""):
+        """The items of all files of a crate, or of one part of it."""
+        files = (it for it in self.files[crate] if it.startswith(f"{crate}/{part}"))
+        return self.once((crate, part, is_own), lambda: [it for file in files for it in self.items(file, is_own)])
+
+    def closure(self, crate):
+        """The crates of the repository that this one stands on, and itself."""
+        below = (it for it in self.below[crate] if it in self.below)
+        return self.once((crate,), lambda: {crate}.union(*map(self.closure, below)))
 
     def module(self, crate, folder, path, end):
         """The file of the longest beginning of a path that is a module, and what of the path is left."""
@@ -158,42 +65,136 @@ class Crates:
                     return f"{crate}/{folder}/{name}", path[count:]
         return None, path
 
-    def resolve(self, crate, path):
-        """The items that a path stands for, in a text of this crate."""
-        if path[0] == "Rattle" and len(path) > 2 and path[1] in self.below:
+    def resolve(self, item, path):
+        """The items that a path stands for in the text of this item."""
+        crate, part, rest = item.crate, "src", path[1:]
+        if path[:1] == ["Rattle"] and len(path) > 2 and path[1] in self.below:
             crate, part, rest = path[1], path[2], [it.lstrip("+") for it in path[3:]]
-            is_made = part == "specs" and rest[:1] in (["declared"], ["contracts"])
-            file, left = (None, rest) if is_made else self.module(crate, part, rest, ".antt")
-            if not file:
-                file, left = self.module(crate, "src", rest[1:] if is_made else rest, ".rt")
-        elif path[0] == "crate":
-            file, left = self.module(crate, "src", path[1:], ".rt")
-        elif path[0] in self.below:
-            return [it for it in self.sources[path[0]] if it.is_public and not it.names.isdisjoint(path[1:])]
-        else:
+        elif path[:1] == ["crate"] and rest[:1] in (["proofs"], ["specs"]):
+            part, rest = rest[0], rest[1:]
+        elif path[:1] and path[0] in self.below:
+            crate, part = path[0], ""
+        elif path[:1] not in (["crate"], ["self"], ["super"]):
             return []
-        return [it for it in self.items.get(file, []) if not left or not it.names.isdisjoint(left)]
+        is_own = item.is_own and crate == item.crate
+        is_made = part == "specs" and rest[:1] in (["declared"], ["contracts"])
+        file, left = (None, rest) if is_made or not part else self.module(crate, part, rest, ".antt")
+        if not file and part:
+            file, left = self.module(crate, "src", rest[1:] if is_made else rest, ".rt")
+        found = [it for it in self.items(file, is_own) if not left or not it.names.isdisjoint(left)] if file else []
+        if not found:
+            found = [it for it in self.all_items(crate, is_own) if not it.names.isdisjoint(left)]
+        return found if part or is_own else [it for it in found if it.is_public]
+
+    def modules(self, item, path):
+        """The items that a path stands for which begins with the name of a module of the same crate."""
+        ends = (f"/{path[0]}.rt", f"/{path[0]}/mod.rt")
+        files = [it for it in self.files[item.crate] if it.endswith(ends)]
+        return [it for file in files for it in self.items(file, item.is_own) if not it.names.isdisjoint(path[1:])]
 
     def follows(self, item):
-        """The items that one names, and the traits that a type has."""
+        """The items that one names, and a hash of it with the lines by which it names them."""
         if item not in self.next:
-            own = [it for it in self.items[item.file] if not it.is_called and not it.names.isdisjoint(item.words)]
-            used = [self.resolve(item.crate, path) for word, path in self.uses[item.file] if word in item.words]
-            traits = [it for it in self.sources[item.crate] if it.owner == "trait" and not it.names.isdisjoint(item.names)]
-            self.next[item] = {*own, *traits, *(it for found in used for it in found)}
+            own = self.items(item.file, item.is_own) if item.file in self.texts else []
+            found = {it for it in own if item.has_code or it.kind not in ("function", "method")}
+            found = {it for it in found if it.kind != "method" and not it.names.isdisjoint(item.words)}
+            uses = [it for it in self.uses.get(item.file, []) if it.is_in(item)]
+            paths = [it.path for it in uses] + [it.split("::") for it in PATH.findall(item.text)]
+            found.update(it for path in paths for it in self.resolve(item, path))
+            found.update(it for path in paths if item.has_code for it in self.modules(item, path))
+            told = repr((item.file, item.text, sorted({it.told for it in uses})))
+            self.next[item] = found, hashlib.sha256(told.encode()).hexdigest()
         return self.next[item]
 
-    def seen_by(self, crate):
-        """The items of the crates below that this one sees."""
-        called = {it for file in self.files_of(crate) for it in words_of(self.texts[file])}
-        todo = [it for file in self.files_of(crate) for _, path in self.uses[file] for it in self.resolve(crate, path)]
-        seen = set()
+    def late(self, crate, words, called):
+        """The impls of traits, and the methods with their types, that these words bring, of a crate and those below."""
+        def made():
+            impls, methods = {}, {}
+            closure = sorted(self.closure(crate))
+            for item in (it for below in closure for it in self.all_items(below, below == crate, "src/")):
+                if item.kind == "trait":
+                    for name in item.names | item.blanket:
+                        impls.setdefault(name, []).append(item)
+                elif item.kind == "method" and (item.is_own or item.is_public):
+                    for name in item.names:
+                        methods.setdefault(name, []).append(item)
+            return impls, methods
+
+        impls, methods = self.once((crate, "late"), made)
+        for word in words & impls.keys():
+            yield from (it for it in impls[word] if word in it.names or word in called)
+        for word in called & methods.keys():
+            yield from (it for it in methods[word] if it.owner in words)
+
+    def seen_by(self, crate, starts):
+        """The hashes of what is seen from these items of a crate, sorted."""
+        todo, seen, words, called = set(starts), set(), set(), set()
         while todo:
-            item = todo.pop()
-            if item in seen or item.crate == crate:
-                continue
-            seen.add(item)
-            todo += self.follows(item)
-            methods = (it for it in self.sources[item.crate] if it.is_called and it.owner and it.owner in item.names)
-            todo += [it for it in methods if it.is_public and not it.names.isdisjoint(called)]
-        return sorted(seen, key=lambda it: (it.file, sorted(it.names), it.text))
+            while todo:
+                item = todo.pop()
+                seen.add(item)
+                words |= item.words | item.names
+                called |= item.words if item.has_code else set()
+                todo |= self.follows(item)[0] - seen
+            todo = set(self.late(crate, words, called)) - seen
+        return sorted({self.follows(it)[1] for it in seen})
+
+    def start(self, file, text):
+        """A text of a crate itself from which a look starts."""
+        item = Item(file, set(), text, has_code=True)
+        item.is_own = True
+        return item
+
+    def heads(self, crate):
+        """What the root of a crate says of all its functions."""
+        roots = (f"{crate}/src/{it}.rt" for it in ("lib", "main"))
+        return [self.start("", it) for root in roots for it in TOP.findall(self.texts.get(root, ""))]
+
+    def functions(self, file):
+        return self.once((file, "functions"), lambda: bodies_of(self.texts[file]))
+
+    def turned(self, edit):
+        """The file and the function that an edit turns, or None where it turns another text or more than one."""
+        file, found = f"{edit.crate}/{edit.pairs[0][0]}", None
+        if file not in self.texts or any(path != edit.pairs[0][0] for path, _, _ in edit.pairs):
+            return None
+        text = self.raw[file]
+        for _, old, new in edit.pairs:
+            functions = bodies_of(plain(file, text)) if found else self.functions(file)
+            at = text.find(old)
+            within = [it for it in functions if it.start <= at and at + len(old) <= it.end]
+            if at < 0 or not within or within[0].name != edit.function.split("::")[-1]:
+                return None
+            if found and found.start != within[0].start:
+                return None
+            found, text = found or within[0], text.replace(old, new)
+        return file, found
+
+    def proofs(self, crate, functions):
+        """The proof files in folders of these functions' names and cycles, in any module; of a method any impl's."""
+        names = {it.name for it in functions}.union(*(it.cycles for it in functions))
+        if any(it.top for it in functions):
+            names.add("TheImpl")
+        for file in (it for it in self.files[crate] if it.startswith(f"{crate}/proofs/")):
+            if names & {it.lstrip("+") for it in file.split("/")[2:-1]}:
+                yield file
+
+    def of_function(self, edit, file, function):
+        """What the prover sees in judging this function, turned by this edit."""
+        cycles = [it for it in self.functions(file) if it is function or it.cycles & function.cycles]
+        starts = [self.start(file, it.text) for it in cycles]
+        starts += [self.start(file, new) for _, _, new in edit.pairs]
+        starts += [self.start(file, it) for it in TOP.findall(self.texts[file])]
+        starts += [self.start(it, self.texts[it]) for it in self.proofs(edit.crate, cycles)]
+        return self.seen_by(edit.crate, [*starts, *self.heads(edit.crate)])
+
+    def of_crate(self, crate):
+        """What the prover sees in judging all functions of a crate."""
+        starts = [self.start(it, self.texts[it]) for it in self.files[crate]]
+        return self.once((crate, "whole"), lambda: self.seen_by(crate, starts))
+
+    def of_edit(self, edit):
+        """What the prover sees in judging this edit."""
+        is_one = edit.function and not edit.fault and not edit.turns_definition()
+        found = self.turned(edit) if is_one else None
+        return self.of_function(edit, *found) if found else self.of_crate(edit.crate)
