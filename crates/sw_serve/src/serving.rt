@@ -105,11 +105,16 @@ pub fn serve_over<
     ensures taken { OnOk result (TakesUpTo limit (P.taken port.old) (P.taken port.new) (P.ended port.new)) }
 {
     let (shared, receivers) = Shared::<H, R, M, G>::new(alloc, opening, gate)?;
-    let shared = Arc::new(alloc, shared)?;
-    let pool = DeskPool::new(rt, alloc, Arc::try_clone(&shared)?)?;
-    let pool = Arc::new(alloc, pool)?;
-    let mut workers = ThreadPool::new(alloc)?;
-    let mut sessions = ThreadPool::new(alloc)?;
+    let Ok((shared, pool)) = with_desks(rt, alloc, shared) else {
+        drop(receivers);
+        return Err(AllocError);
+    };
+    let Ok((mut workers, mut sessions)) = ThreadPool::two(alloc) else {
+        drop(receivers);
+        drop(pool);
+        drop(shared);
+        return Err(AllocError);
+    };
     start_workers(rt, alloc, &pool, &mut workers, receivers);
     if serve_each(rt, alloc, &pool, &mut sessions, port, limit) {
         pool.open_all();
@@ -121,8 +126,35 @@ pub fn serve_over<
     join_all(&rt, &pool, workers);
     match close_down(&rt, alloc, shared, pool.take_desks(alloc)) {
         Ok(closed) => Ok(closed),
-        Err(_) => Err(AllocError),
+        Err(left) => {
+            drop(left);
+            Err(AllocError)
+        }
     }
+}
+
+/// A mainframe for many threads, and the pool of its desks.
+fn with_desks<
+    H: Mainframe,
+    R: Relay,
+    M: Meter,
+    G: Gate + Drop,
+    W: Wait + Clock + Copy + Drop,
+>(
+    rt: W,
+    alloc: Global,
+    shared: Shared<H, R, M, G>,
+) -> Result<
+    (
+        Arc<Shared<H, R, M, G>, Global>,
+        Arc<DeskPool<H, R, M, G, W>, Global>,
+    ),
+    AllocError,
+> {
+    let shared = Arc::new(alloc, shared)?;
+    let pool = DeskPool::new(rt, alloc, Arc::try_clone(&shared)?)?;
+    let pool = Arc::new(alloc, pool)?;
+    Ok((shared, pool))
 }
 
 /// What a thread gives back.

@@ -38,6 +38,15 @@ impl<T: Send + Drop + 'static> ThreadPool<T> {
         })
     }
 
+    /// Two pools without a thread.
+    pub fn two(alloc: Global) -> Result<(Self, Self), AllocError>
+        ensures { IfOk result (λ threads. (vec_len threads.0.members ≡ 0) × (vec_len threads.1.members ≡ 0)) }
+    {
+        let first = ThreadPool::new(alloc)?;
+        let second = ThreadPool::new(alloc)?;
+        Ok((first, second))
+    }
+
     /// Starts a thread for this work. It does not where there is no memory or no thread.
     pub fn start<
         W: Threads + Wait + Copy + Drop + Send + 'static,

@@ -251,9 +251,17 @@ fn outlast<D: Desk>(desk: &mut D, sid: Sid, answer: &mut SessionAnswer)
         Settles sid 0 ask (Asked ask (Hold ask) ∷ t) answer.new rest) }
 {
     match replace(answer, SessionAnswer::Stranger) {
-        SessionAnswer::Hold(held) => *answer = wait_out(desk, sid, held),
-        told => *answer = told,
+        SessionAnswer::Hold(held) => put(wait_out(desk, sid, held), answer),
+        told => put(told, answer),
     }
+}
+
+/// Puts an answer into its place.
+#[inline(always)]
+pub fn put(told: SessionAnswer, answer: &mut SessionAnswer)
+    ensures { answer.new ≡ told }
+{
+    *answer = told;
 }
 
 /// Waits until an ask that the desk held once is no longer held. After each wait it makes the ask again, unless the

@@ -1,5 +1,6 @@
 //! What takes a session's asks.
 
+use crate::asking::put;
 use sw_core::{SessionAnswer, SessionAsk, Sid};
 use sw_lex::Command;
 
@@ -43,7 +44,7 @@ pub trait Desk {
         ensures passes { passes self.old (Asked ask answer.new) self.new }
         ensures back { HandsBackAsk ask answer.new }
     {
-        *answer = self.ask(ask);
+        put(self.ask(ask), answer);
     }
 
     /// Answers the ask for the command of a unit as `ask_into` does. `answered` says whether its message has answered

@@ -215,7 +215,9 @@ impl Talker {
         let answered = has_answers(out);
         let mut answer = SessionAnswer::Stranger;
         ask_command(desk, self.sid, command, answered, &mut answer);
-        conclude(desk, self.sid, &mut answer, out)
+        let after = conclude(desk, self.sid, &mut answer, out);
+        drop(answer);
+        after
     }
 
     /// Serves a unit that is this command. There is no memory for its answer, so that nothing is read out.
@@ -235,7 +237,9 @@ impl Talker {
     {
         drop(command);
         let mut answer = queue(desk, self.sid, ScpiError::OutOfMemory);
-        conclude(desk, self.sid, &mut answer, out)
+        let after = conclude(desk, self.sid, &mut answer, out);
+        drop(answer);
+        after
     }
 
     /// Serves a unit that is this command, one of the session's own.
@@ -258,7 +262,9 @@ impl Talker {
             answered,
         );
         let mut answer = answer;
-        conclude(desk, self.sid, &mut answer, out)
+        let after = conclude(desk, self.sid, &mut answer, out);
+        drop(answer);
+        after
     }
 
     /// Serves a unit that is refused by this error.
@@ -276,7 +282,9 @@ impl Talker {
         ensures same { self.new.sid ≡ self.old.sid }
     {
         let mut answer = queue(desk, self.sid, error);
-        conclude(desk, self.sid, &mut answer, out)
+        let after = conclude(desk, self.sid, &mut answer, out);
+        drop(answer);
+        after
     }
 }
 
@@ -419,7 +427,9 @@ fn conclude<D: Desk>(
 fn go_on(answer: SessionAnswer) -> AfterUnit
     ensures { result ≡ after_unit answer }
 {
-    after_unit(&answer)
+    let after = after_unit(&answer);
+    drop(answer);
+    after
 }
 
 /// How a message continues after an answer.

@@ -104,7 +104,10 @@ fn take_out<H: Mainframe, R: Relay, M: Meter>(
     held.has_history();
     match held.ask(part, Ask::Eject(slot)) {
         Answer::Ejected(card) => Some(card),
-        _ => None,
+        other => {
+            drop(other);
+            None
+        }
     }
 }
 

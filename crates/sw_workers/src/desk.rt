@@ -215,7 +215,10 @@ impl<H: Mainframe, R: Relay, M: Meter, G: Gate + Drop, W: Wait + Clock + Copy + 
     {
         match self.act(ask) {
             Answer::Taken(work) => work,
-            _ => None,
+            other => {
+                drop(other);
+                None
+            }
         }
     }
 

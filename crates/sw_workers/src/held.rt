@@ -206,7 +206,13 @@ impl<H: Mainframe, R: Relay, M: Meter> Held<H, R, M> {
         requires parts { (spare.parts ≡ all_parts) × (spare.amount ≡ 0) × (H.parts ≡ all_parts) }
         ensures { IfOk result (λ held. held ≡ record { panel = core.panel; given = 0; history = []; turn = 0 }) }
     {
-        let notes = HeapCircularBuffer::with_capacity(alloc, MOST_NOTES)?;
+        let notes = match HeapCircularBuffer::with_capacity(alloc, MOST_NOTES) {
+            Ok(notes) => notes,
+            Err(fault) => {
+                drop(core);
+                return Err(fault);
+            }
+        };
         Ok(Held {
             alloc,
             core,

@@ -89,6 +89,68 @@ fn outcome_of(seen: u64, turn: u64, is_closing: bool) -> Woken
     }
 }
 
+/// What the threads share beside the mainframe itself, and the ends of the channels of its work.
+#[derive(Drop)]
+struct Rooms<H: Mainframe, M: Meter> {
+    slots: SeatSlots<H>,
+    available: AvailableRows,
+    outboxes: Arc<Outboxes, Global>,
+    senders: WorkSenders<M>,
+    receivers: WorkReceivers<M>,
+}
+
+impl<H: Mainframe, M: Meter> Rooms<H, M> {
+    fn new(alloc: Global) -> Result<Self, AllocError> {
+        let slots = SeatSlots::new(alloc)?;
+        let available = AvailableRows::new(alloc)?;
+        let outboxes = Arc::new(alloc, Outboxes::new(alloc)?)?;
+        let (senders, receivers) = work_posts(alloc)?;
+        Ok(Rooms {
+            slots,
+            available,
+            outboxes,
+            senders,
+            receivers,
+        })
+    }
+}
+
+/// What a new mainframe keeps behind its lock, and the status board that it publishes to.
+fn behind_lock<H: Mainframe, R: Relay, M: Meter>(
+    alloc: Global,
+    opening: Opening<R, M>,
+) -> Result<(Held<H, R, M>, Arc<StatusBoard<H>, Global>), AllocError>
+    requires first { opening.core ≡ H.first }
+    requires fresh { IsFresh opening.core }
+    requires ledger { (opening.blank.name ≡ H.name) × (opening.blank.parts ≡ H.parts) }
+    requires board { (opening.board.table.shared.table_id ≡ H.table)
+        × (opening.board.table.shared.key ≡ H.opening) }
+{
+    let Opening { core, blank, board } = opening;
+    let (events, spare) = blank.open::<H>();
+    let (board, pass) = board.open::<H>();
+    let board = match shared_twice(alloc, board) {
+        Ok(board) => board,
+        Err(fault) => {
+            drop(core);
+            return Err(fault);
+        }
+    };
+    let recorded = Recorded::new(core, pass, board.0);
+    let held = Held::new(alloc, recorded, events, spare)?;
+    Ok((held, board.1))
+}
+
+/// A board for two owners.
+fn shared_twice<H: Mainframe>(
+    alloc: Global,
+    board: StatusBoard<H>,
+) -> Result<(Arc<StatusBoard<H>, Global>, Arc<StatusBoard<H>, Global>), AllocError> {
+    let board = Arc::new(alloc, board)?;
+    let copy = Arc::try_clone(&board)?;
+    Ok((copy, board))
+}
+
 /// What all threads share.
 #[derive(Drop)]
 pub struct Shared<H: Mainframe, R: Relay, M: Meter, G: Gate + Drop> {
@@ -117,21 +179,29 @@ impl<H: Mainframe, R: Relay, M: Meter, G: Gate + Drop> Shared<H, R, M, G> {
         requires board { (opening.board.table.shared.table_id ≡ H.table)
             × (opening.board.table.shared.key ≡ H.opening) }
     {
-        let Opening { core, blank, board } = opening;
-        let (events, spare) = blank.open::<H>();
-        let (board, pass) = board.open::<H>();
-        let board = Arc::new(alloc, board)?;
-        let recorded = Recorded::new(core, pass, Arc::try_clone(&board)?);
-        let held = Held::new(alloc, recorded, events, spare)?;
-        let (senders, receivers) = work_posts(alloc)?;
-        let outboxes = Arc::new(alloc, Outboxes::new(alloc)?)?;
+        let (held, board) = behind_lock(alloc, opening)?;
+        let rooms = match Rooms::new(alloc) {
+            Ok(rooms) => rooms,
+            Err(fault) => {
+                drop(held);
+                drop(board);
+                return Err(fault);
+            }
+        };
+        let Rooms {
+            slots,
+            available,
+            outboxes,
+            senders,
+            receivers,
+        } = rooms;
         let shared = Shared {
             held: CachePadded::new(Mutex::new(held)),
             happened: Condvar::new(),
             board,
-            slots: SeatSlots::new(alloc)?,
+            slots,
             senders: Mutex::new(Some(senders)),
-            available: AvailableRows::new(alloc)?,
+            available,
             outboxes,
             gate,
         };

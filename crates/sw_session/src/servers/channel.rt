@@ -49,6 +49,9 @@ pub fn serve_channel<R: Source, W: Sink, S: Sink, D: Desk>(
     };
     let result = server.run(reader, turns);
     server.leave();
+    drop(engine);
+    drop(decoder);
+    drop(rooms);
     result
 }
 
