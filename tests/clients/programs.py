@@ -1,9 +1,8 @@
 """Scan programs over a served program: what is taken, what runs, and what is refused."""
-import random
-
 from swm import ScanError
 
-from support.checking import Failure, same, wait_until
+from support.checking import Failure, same
+from support.scan_programs import HELD, code
 from support.scpi import CONFLICT, NO_ERROR
 from support.sessions import session
 from support.transcripts import listings
@@ -14,14 +13,8 @@ IGNORED = '-211,"Trigger ignored"'
 NONE = "#10"
 STANDING = "DIAG:SCAN:BOUN?;:ROUT:SCAN:PROG:STAT?"
 SAMPLES = "scan 2\nmeter 4\nclose 1!1\npause 10000\nread\nread\nread\nopen 1!1\nhalt\n"
-HELD = (
-    "scan 2\nmeter 4\nset 0 2\nclose 1!1\nset 1 3\nclose 2!1\nread\nopen 2!1\nloop 1 3\nopen 1!1\nloop 0 1\nhalt\n")
 TRIGGERED = "scan 2\nmeter 4\nclose 1!1\nwait trig\nread\nopen 1!1\nhalt\n"
 CLASHING = "scan 2\nmeter 4\nclose 1!1\nclose 3!1\nread\nopen 3!1\nopen 1!1\nhalt\n"
-
-
-def code(*steps, version=2):
-    return "".join(f"{line}\n" for line in (f"scan {version}", "meter 4", *steps))
 
 
 def block(text):
@@ -70,7 +63,7 @@ def reads_thrice_for_one_closing(served):
 def holds_a_channel_over_nested_readings(served):
     with session(served) as mainframe:
         mainframe.write("*RST")
-        mainframe.load_program(HELD)
+        mainframe.load_program(code(*HELD))
         same("what is awaited", mainframe.query("DIAG:SCAN:BOUN?"), "6")
         same("six readings", differences(mainframe.read_scan()), [0, 1, 2, 3, 4, 5])
         same("relays", mainframe.query("ROUT:CLOS:STAT?;:SYST:ERR?;*RST"), f"(@);{NO_ERROR}")
@@ -97,7 +90,7 @@ def refuses_what_is_no_program(served):
     """Texts that are no listing, loops that do nothing, too many items, nothing awaited; a step too many is -223."""
     with session(served) as mainframe:
         mainframe.write("*RST")
-        mainframe.load_program(HELD)
+        mainframe.load_program(code(*HELD))
         for text in [
             code("close 1!1", "closs 1!1", "read", "halt"), "", "scan 3\nmeter 4\nread\nhalt\n",
             code("set 4 1", "halt"), code("set 0 5", "loop 0 1", "read", "halt"), nested([100_000] * 4, "read"),
@@ -240,116 +233,7 @@ def takes_a_long_listing(served):
         same("errors", mainframe.query("*RST;:SYST:ERR?"), NO_ERROR)
 
 
-# Random programs, against a plain interpreter
-
-RANDOM_PROGRAMS = 100
-SHORTEST, LONGEST = 1, 40  # waits and readings of one
-FREE = [f"2!{n}" for n in range(1, 17)]  # of no group
-GROUPED = [f"{slot}!{n}" for slot, count in [(1, 20), (3, 10)] for n in range(1, count + 1)]  # of one group
-
-
-class Writer:
-    """Writes a random program whose every position is opened in the loop in which it was closed."""
-
-    def __init__(self, chance):
-        self.chance, self.steps, self.closed, self.counters = chance, [], [], 0
-
-    def body(self, depth):
-        for _ in range(self.chance.randint(1, 3)):
-            self.chance.choice([self.awaits, self.awaits, self.closes, self.turns])(depth)
-
-    def awaits(self, _):
-        self.steps.append(self.chance.choice(["wait trig", "read"]))
-
-    def position(self):
-        """Channels that may be closed now: of the group at most one, beside none of it."""
-        found = self.chance.sample([chan for chan in FREE if chan not in self.closed], self.chance.randint(0, 2))
-        if not any(chan in GROUPED for chan in self.closed) and self.chance.random() < 0.7:
-            found.append(self.chance.choice(GROUPED))
-        self.chance.shuffle(found)
-        return found
-
-    def closes(self, depth):
-        found = self.position()
-        if not found or depth == 4:
-            return self.awaits(depth)
-        self.steps.append("close " + "&".join(found))
-        self.closed += found
-        self.body(depth + 1)
-        self.closed = [chan for chan in self.closed if chan not in found]
-        self.steps.append("open " + "&".join(found))
-
-    def turns(self, depth):
-        if self.counters == 4 or depth == 4:
-            return self.awaits(depth)
-        counter, self.counters = self.counters, self.counters + 1
-        self.steps.append(f"set {counter} {self.chance.randint(1, 3)}")
-        to = len(self.steps)
-        self.awaits(depth)
-        self.body(depth + 1)
-        self.steps.append(f"loop {counter} {to}")
-        self.counters = counter
-
-
-def items_of(steps):
-    """What the steps do up to halt, loops as often as their counters say."""
-    counters, at, items = [0] * 4, 0, []
-    while steps[at] != "halt":
-        word, *parts = steps[at].split()
-        at += 1
-        if word == "set":
-            counters[int(parts[0])] = int(parts[1])
-        elif word == "loop":
-            counters[int(parts[0])] -= 1
-            at = int(parts[1]) if counters[int(parts[0])] else at
-        else:
-            items.append((word, parts[0].split("&") if parts else []))
-    return items
-
-
-def listed(channels):
-    """The channels as ROUTe:CLOSe:STATe? tells them."""
-    return f"(@{','.join(sorted(channels, key=lambda chan: tuple(map(int, chan.split('!')))))})"
-
-
-def random_program(chance):
-    """Steps that await something, and not too much."""
-    while True:
-        writer = Writer(chance)
-        writer.body(0)
-        steps = [*writer.steps, "halt"]
-        if SHORTEST <= sum(word in ("wait", "read") for word, _ in items_of(steps)) <= LONGEST:
-            return steps
-
-
-def does_its_items(mainframe, steps):
-    """At each wait for a trigger exactly the channels are closed that the items before leave closed."""
-    items, closed = items_of(steps), []
-    mainframe.load_program(code(*steps))
-    awaited = sum(word in ("wait", "read") for word, _ in items)
-    same("what is awaited", mainframe.query("DIAG:SCAN:BOUN?;:INIT;:SYST:ERR?"), f"{awaited};{NO_ERROR}")
-    for word, channels in items:
-        if word == "close":
-            closed += channels
-        elif word == "open":
-            closed = [chan for chan in closed if chan not in channels]
-        elif word == "wait":
-            wait_until("a wait for a trigger", lambda: mainframe.query("STAT:OPER:COND?") == "32")
-            same(f"closed by {steps}", mainframe.query("ROUT:CLOS:STAT?;*TRG"), listed(closed))
-    reads = sum(word == "read" for word, _ in items)
-    same("readings", mainframe.query("*OPC?;:TRAC:POIN:ACT?;:ROUT:CLOS:STAT?;:SYST:ERR?"), f"1;{reads};(@);{NO_ERROR}")
-
-
-def does_what_random_programs_say(served):
-    with session(served) as mainframe:
-        mainframe.write("*RST;:TRIG:SOUR BUS")
-        for seed in range(RANDOM_PROGRAMS):
-            does_its_items(mainframe, random_program(random.Random(seed)))
-        mainframe.write("*RST")
-
-
 CHECKS = [
-    does_what_random_programs_say,
     reads_thrice_for_one_closing, holds_a_channel_over_nested_readings, gives_the_program_back,
     refuses_what_is_no_program, is_judged_on_the_present_cards, is_checked_as_by_check, is_checked_as_the_cage_is,
     waits_as_the_layer_says, is_switched_and_deleted,
