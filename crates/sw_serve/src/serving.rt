@@ -134,13 +134,7 @@ pub fn serve_over<
 }
 
 /// A mainframe for many threads, and the pool of its desks.
-fn with_desks<
-    H: Mainframe,
-    R: Relay,
-    M: Meter,
-    G: Gate + Drop,
-    W: Wait + Clock + Copy + Drop,
->(
+fn with_desks<H: Mainframe, R: Relay, M: Meter, G: Gate + Drop, W: Wait + Clock + Copy + Drop>(
     rt: W,
     alloc: Global,
     shared: Shared<H, R, M, G>,
