@@ -4,6 +4,7 @@ mod KeptLemmas
 mod TurnLemmas
 mod WholeRunLemmas
 mod RunsLemmas
+mod LoadingLemmas
 mod StandLemmas
 mod DeterminedLemmas
 mod WelcomeLemmas

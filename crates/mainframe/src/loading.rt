@@ -1,8 +1,11 @@
 //! A scan program in a file.
 
-ghost use Rattle.std.specs.Prelude.{◌≡◌, Ok, IfOk};
+ghost use Rattle.std.specs.Prelude.{◌≡◌, Ok, IfOk, IfErr, OnOk};
 ghost use Rattle.sw_code.specs.Reading.{code_in};
+ghost use Rattle.sw_session.specs.CoreDesk.{CorePasses};
 ghost use Rattle.sw_verify.specs.Runnable.{IsRunnable};
+ghost use Rattle.sw_verify.specs.declared.setup.Loaded.TheVariants.{On};
+ghost use Rattle.mainframe.specs.Run.{takes_program};
 
 use crate::fault::RunFault;
 use std::alloc::Global;
@@ -87,15 +90,20 @@ fn said(alloc: Global, line: u32, name: &str, cause: Option<String>) -> LoadFaul
     }
 }
 
-/// Takes the program as the instrument's, which is on then.
+/// Takes the program as the instrument's, which is on then. The session asks for it as by a unit of a message.
 pub fn load<R: Relay, M: Meter>(
     desk: &mut CoreDesk<R, M>,
     sid: Sid,
     program: BoxedProgram,
-) -> Result<(), RunFault> {
+) -> Result<(), RunFault>
+    ensures asked { OnOk result (CorePasses desk.old (takes_program program sid) desk.new) }
+    ensures on { OnOk result (desk.new.panel.settings
+        ≡ record desk.old.panel.settings { program = On program }) }
+    ensures memory { IfErr result (λ fault. fault ≡ RunFault.Memory) }
+{
     let command = Command::Set(Setting::Program(program));
     match desk.ask(SessionAsk::Unit(sid, command, false)) {
-        SessionAnswer::Done(_) => Ok(()),
+        SessionAnswer::Done(None) => Ok(()),
         answer => {
             drop(answer);
             Err(RunFault::Memory)
