@@ -150,20 +150,11 @@ fn a_rack(rt: HostRuntime) -> Result<(), Fail> {
 #[test]
 fn a_scan_program(rt: HostRuntime) -> Result<(), Fail> {
     let alloc = rt.alloc();
-    assert!(rt;
-        asks_for(
-            alloc,
-            &["run", "--program", "F"],
-            |file| Order::Program(None, file)
-        )?
-    );
-    assert!(rt;
-        asks_for(
-            alloc,
-            &["run", "--fuse", "1", "--program", "F"],
-            |file| Order::Program(Some(1), file)
-        )?
-    );
+    let plain = Order::Program(None, file(alloc)?);
+    assert_eq!(rt; asked(alloc, &["run", "--program", "F"])?, Ok(plain));
+    let fused = Order::Program(Some(1), file(alloc)?);
+    let words = ["run", "--fuse", "1", "--program", "F"];
+    assert_eq!(rt; asked(alloc, &words)?, Ok(fused));
     Ok(())
 }
 
