@@ -50,7 +50,10 @@ fn parts(command: &Command) -> (&str, &[Chan]) {
         Command::Query(PlainQuery::CloseState) => ("state?", &[]),
         Command::Query(PlainQuery::Headers) => ("headers?", &[]),
         Command::Query(PlainQuery::ScanCheck) => ("scan check?", &[]),
-        Command::ListingCheck(listing) if listing.as_slice() == b"a;\n" => ("listing check?", &[]),
+        Command::ListingCheck(listing) if listing.as_slice() == b"a;\n".as_slice() => (
+            "listing check?",
+            &[],
+        ),
         Command::Plain(Plain::Read) => ("read?", &[]),
         Command::Channels(Channels::Close, list) => ("close", list.as_slice()),
         Command::Channels(Channels::CloseQuery, list) => ("close?", list.as_slice()),
