@@ -25,7 +25,7 @@ class Room:
     """A copy of a crate and of what it stands on, where edits are put in and checked."""
 
     def __init__(self, repository, crate, at, jobs):
-        self.crate, self.jobs, self.folder = crate, jobs, f"{at}/crates/{crate}"
+        self.crate, self.jobs, self.folder, self.unturned = crate, jobs, f"{at}/crates/{crate}", None
         self.clean = f"{repository.root}/crates/{crate}"
         crates = repository.closure(crate)
         with open(f"{at}/crates.txt", "w", encoding="utf-8") as it:
@@ -40,7 +40,17 @@ class Room:
                     shutil.copytree(f"{repository.root}/{folder}", f"{at}/{folder}", copy_function=made)
 
     def check(self, texts, only=None):
-        """The status and the lines of a check of the crate with these texts in place of its own, or of one function."""
+        """The status and the lines of a check of the crate with these texts in place of its own, or of one function.
+
+        The crate as it is, is checked once.
+        """
+        if not texts and not only:
+            self.unturned = self.unturned or self.run(texts)
+            return self.unturned
+        return self.run(texts, only)
+
+    def run(self, texts, only=None):
+        """A check that is made now."""
         for part in ("src", "specs"):
             shutil.rmtree(f"{self.folder}/{part}", ignore_errors=True)
             if os.path.isdir(f"{self.clean}/{part}"):
