@@ -5,7 +5,6 @@ ghost use Rattle.std.specs.Vec.{vec_capacity};
 ghost use Rattle.sw_base.specs.Limits.{most_slots};
 ghost use Rattle.sw_cage.specs.Accounts.{accounts_of};
 ghost use Rattle.sw_core.specs.Opening.{IsFresh};
-ghost use Rattle.sw_core.specs.Seen.{ask_seen, answer_seen, work_seen, AskSession, SaysSession};
 ghost use Rattle.sw_session.specs.CoreDesk.{piece_seen};
 ghost use Rattle.sw_workers.specs.Closing.{IsClosedDown};
 ghost use Rattle.sw_workers.specs.History.{pair_of};
@@ -19,6 +18,7 @@ use crate::available::AvailableRows;
 use crate::board::{BlankBoard, StatusBoard};
 use crate::closing::{Closed, gather, take_cards};
 use crate::desk::SharedDesk;
+use crate::event_kind::EventKind;
 use crate::gate::Gate;
 use crate::held::{DeskPart, Held, Mainframe};
 use crate::note::Note;
@@ -34,7 +34,7 @@ use std::sync::ledger::Blank;
 use std::sync::{Arc, Condvar, Mutex, Wait};
 use std::time::{Clock, Duration};
 use sw_card::{Card, Meter, Relay};
-use sw_core::{Answer, Ask, Core, SessionAnswer, SessionAsk, Sid, Work, runs_go_on};
+use sw_core::{Core, Sid, Work, runs_go_on};
 use sw_session::{Seating, View};
 
 /// The parts of a ledger.
@@ -157,46 +157,26 @@ impl<H: Mainframe, R: Relay, M: Meter, G: Gate + Drop> Shared<H, R, M, G> {
         self.held.lock(rt).new_part()
     }
 
-    /// Asks under the lock what no session asks, and wakes those who wait where they may go on. It gives the turn after
-    /// that too.
-    pub fn act<W: Wait>(
-        &self,
-        rt: &W,
-        part: &mut DeskPart<H>,
-        ask: Ask<R, M>,
-    ) -> (Answer<R, M>, u64)
-        ensures { AsksOnce H.first (ask_seen ask) (answer_seen result.0) part.old part.new }
-    {
-        let mut guard = lock_soon(&self.held, rt);
-        let before = guard.turn();
-        let answer = guard.act(part, ask);
-        let turn = guard.turn();
-        drop(guard);
-        if turn != before {
-            self.happened.notify_all();
-        }
-        (answer, turn)
-    }
-
-    /// Asks under the lock what a session asks, which is to change who has joined like this, as `act` does, and gives the
-    /// turn after that. Who joins and who leaves is followed. The answer is left in `answer`, and what its scan awaits now in `work`.
+    /// Asks under the lock what is to change who has joined like this, and wakes those who wait where they may go on.
+    /// Who joins and who leaves is followed. It gives the turn after that. The answer is left in `answer`, and what
+    /// comes beside it in `left`.
     #[inline(always)]
-    pub fn act_session<W: Wait>(
+    pub fn act<E: EventKind<R, M>, W: Wait>(
         &self,
         rt: &W,
         part: &mut DeskPart<H>,
         seating: Seating,
-        ask: SessionAsk,
-        answer: &mut SessionAnswer,
-        work: &mut Option<Work<M>>,
+        ask: E::Ask,
+        answer: &mut E::Answer,
+        left: &mut E::Left,
     ) -> u64
-        requires { work.old ≡ None }
-        ensures { AsksOnce H.first (AskSession ask) (SaysSession answer.new (work_seen work.new)) part.old part.new }
+        requires { E.is_blank left.old }
+        ensures { AsksOnce H.first (E.asked ask) (E.answered answer.new left.new) part.old part.new }
     {
         let mut guard = lock_soon(&self.held, rt);
         let before = guard.turn();
-        guard.act_session(part, ask, answer, work);
-        self.follow(rt, &guard, seating, answer);
+        guard.act::<E>(part, ask, answer, left);
+        self.follow::<E, W>(rt, &guard, seating, answer);
         let turn = guard.turn();
         drop(guard);
         if turn != before {
@@ -207,17 +187,19 @@ impl<H: Mainframe, R: Relay, M: Meter, G: Gate + Drop> Shared<H, R, M, G> {
 
     /// Follows who joins and who leaves, while the mainframe is locked.
     #[inline(always)]
-    fn follow<W: Wait>(
+    fn follow<E: EventKind<R, M>, W: Wait>(
         &self,
         rt: &W,
         _locked: &Held<H, R, M>,
         seating: Seating,
-        answer: &SessionAnswer,
+        answer: &E::Answer,
     ) {
         if let Seating::Stays = seating {
             return;
         }
-        self.available.follow(rt, seating, answer);
+        if let Some(answer) = E::session_answer(answer) {
+            self.available.follow(rt, seating, answer);
+        }
     }
 
     /// Ends the scan that runs and opens every relay under one lock, and wakes those who wait. It gives the turn after
