@@ -54,7 +54,7 @@ tests:
 	@tests/run $(BUILT) $(PART)
 
 wrong:
-	@wrong/libraries && wrong/try --all
+	@wrong/try --all
 
 check:
 	@cd crates/$(CRATE) && $(RT) check

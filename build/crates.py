@@ -32,7 +32,7 @@ def kit_of(rt):
 
 
 class Crates:
-    """The list of crates, with what each is made from and by which commands, the last of them the program."""
+    """The list of crates, with what each is made from and by which commands, and which of them is the program, if one."""
 
     def __init__(self, root, rt, program=NAME):
         self.root, self.kit, self.program = root, kit_of(rt), program
@@ -41,8 +41,11 @@ class Crates:
             name, colon, libraries = line.partition("#")[0].partition(":")
             if colon:
                 self.below[name.split()[0]] = libraries.split()
-        if program not in self.below or not (root / "crates" / program / "src/main.rt").is_file():
+        if program and (program not in self.below or not self.is_program(program)):
             raise Fault(f"{program} is no program of crates.txt")
+
+    def is_program(self, crate):
+        return (self.root / "crates" / crate / "src/main.rt").is_file()
 
     def own(self, crate):
         """The crates of the repository that this one names."""
@@ -100,7 +103,7 @@ class Crates:
 
     def front(self, crate):
         """What each command of the prover has of a crate."""
-        words = ["--crate-name", crate, "src/main.rt" if crate == self.program else "src/lib.rt"]
+        words = ["--crate-name", crate, "src/main.rt" if self.is_program(crate) else "src/lib.rt"]
         for name in ["std", *[it for it in self.below[crate] if it not in self.below]]:
             words += ["--extern", f"{name}={self.kit}/rlibs/{name}.rlib"]
         words += ["-L", f"dependency={self.kit}/rlibs"]
@@ -110,12 +113,17 @@ class Crates:
             words += ["-L", f"dependency={self.made(name)}"]
         return [*words, "--antt-project", f"{self.kit}/rattle/logic/antt-project.json", "--links", f"{crate}="]
 
+    def check(self, crate, jobs):
+        """The command that checks a crate, as far as it is the same for each check."""
+        built = ["--logic-built", f"{self.kit}/logic_built", "--jobs", str(jobs)]
+        return [f"{self.kit}/bin/rattle", "check", *self.front(crate), *built]
+
     def commands(self, crate, jobs):
         """The commands that prove a crate and build its library or the program; each has to succeed before the next."""
-        rattle, front, made = f"{self.kit}/bin/rattle", self.front(crate), self.made(crate)
+        made = self.made(crate)
         checked = f"{made}/checked"
-        check = [rattle, "check", *front, "--logic-built", f"{self.kit}/logic_built", "--jobs", str(jobs), "--progress"]
-        build = [rattle, "build", *front, "--crate-checked", checked]
+        check = [*self.check(crate, jobs), "--progress"]
+        build = [f"{self.kit}/bin/rattle", "build", *self.front(crate), "--crate-checked", checked]
         if crate != self.program:
             # The crates above load what a library states, and not its proofs.
             return [[*check, "--statements", "-o", checked], [*build, "-o", f"{made}/{crate}.rlib"]]

@@ -1,9 +1,12 @@
 """Proofs of crates side by side, as processors and memory allow: first those with the longest chain behind them."""
+import contextlib
+import fcntl
 import os
 import re
 import shutil
 import signal
 import subprocess
+import sys
 import time
 from typing import NamedTuple
 
@@ -17,6 +20,22 @@ MARGIN = 0.85  # of the free memory
 LIKELY = 0.6  # of the memory that is reckoned, of which small crates take less than half
 MORE = 1.2  # times what the last run took
 EACH_JOB = 0.6  # of a proof's memory, for each further job
+
+
+@contextlib.contextmanager
+def alone(folder):
+    """One build at a time works in this folder; a second one waits."""
+    folder.mkdir(parents=True, exist_ok=True)
+    at = os.open(folder, os.O_RDONLY)
+    try:
+        try:
+            fcntl.flock(at, fcntl.LOCK_EX | fcntl.LOCK_NB)
+        except BlockingIOError:
+            print("another build is at work: waiting for its end", file=sys.stderr, flush=True)
+            fcntl.flock(at, fcntl.LOCK_EX)
+        yield
+    finally:
+        os.close(at)
 
 
 class Cost(NamedTuple):
@@ -75,12 +94,15 @@ class Proof:
 
 
 class Lanes:
-    """What is proved, what runs, and what waits for it. `folder` keeps the prover's lines and what each crate took."""
+    """What is proved, what runs, and what waits for it, of the crates that are named, lowest first.
 
-    def __init__(self, crates, folder):
-        self.crates, self.folder = crates, folder
-        self.names = crates.closure()
-        crates.sources()
+    `folder` keeps the libraries that were built, the prover's lines and what each crate took.
+    """
+
+    def __init__(self, crates, folder, names):
+        self.crates, self.folder, self.names = crates, folder, names
+        for name in names:
+            crates.stamp(name)  # by the files as they are now
         self.costs = self.last_costs()
         self.done = {it for it in self.names if self.is_kept(it)}
         self.running, self.lone = {}, set()
@@ -129,8 +151,10 @@ class Lanes:
             is_lone = name in self.lone or any(it in self.lone for it in self.running)
             if idle < 1 or self.running and (is_lone or need > room):
                 continue
-            # A proof gets the processors that no other waits for.
-            jobs = max(1, min(MOST_JOBS, idle // (len(ready) - at), 1 + int((room / need - 1) / EACH_JOB)))
+            # A proof gets the processors that no other waits for, and that of the longest chain half at least.
+            others = len(ready) - at - 1
+            share = max((idle + 1) // 2, idle - others) if at == 0 else idle // (others + 1)
+            jobs = max(1, min(MOST_JOBS, share, 1 + int((room / need - 1) / EACH_JOB)))
             self.start(name, 1 if is_lone else jobs, need)
 
     def start(self, name, jobs, need):
@@ -157,13 +181,17 @@ class Lanes:
                 self.keep(name, proof.cost())
         return bool(ended)
 
+    def keep_library(self, name, made):
+        """Keeps the library that stands in this folder, proved of the crate's files as they are."""
+        shutil.make_archive(str(self.folder / name), "tar", made)
+        (self.folder / f"{name}.stamp").write_text(self.crates.stamp(name), encoding="utf-8")
+
     def keep(self, name, cost):
         self.done.add(name)
         self.costs[name] = cost
         shutil.rmtree(self.crates.made(name) / "checked", ignore_errors=True)
         if name != self.crates.program:
-            shutil.make_archive(str(self.folder / name), "tar", self.crates.made(name))
-            (self.folder / f"{name}.stamp").write_text(self.crates.stamp(name), encoding="utf-8")
+            self.keep_library(name, self.crates.made(name))
         lines = [f"{it} {cost.seconds:.0f} {cost.processor:.0f} {cost.memory:.0f}\n" for it, cost in self.costs.items()]
         (self.folder / "costs").write_text("".join(lines), encoding="utf-8")
 
@@ -182,8 +210,9 @@ class Lanes:
             text += f"; {max(left, default=0) / 60:.0f} minutes left"
         return text
 
+    @contextlib.contextmanager
     def prove(self, show):
-        """Proves what is not proved yet, and tells how far it is."""
+        """Proves what is not proved yet, and tells how far it is; what that built stands until the block's end."""
         is_news = True
         try:
             for name in self.done:
@@ -193,6 +222,7 @@ class Lanes:
                 show(self.progress(), is_news)
                 time.sleep(0.5)
                 is_news = self.look()
+            yield
         finally:
             for proof in self.running.values():
                 proof.end()

@@ -296,6 +296,26 @@ class Session:
         self._raise_more_than(before)
         return self.query_ascii_values(":FETC?")
 
+    def load_program(self, text: str) -> None:
+        """Takes a listing as the scan program, which is on then. It raises ScanError where the listing is refused: then
+        the program before it stays as it was."""
+        before = int(self.query(ERROR_COUNT))
+        self.write_binary_values(":ROUT:SCAN:PROG ", text.encode("utf-8", "surrogateescape"))
+        self._queued = int(self.query(ERROR_COUNT))
+        self._raise_more_than(before)
+
+    def check_program(self, text: str) -> str:
+        """What the instrument says of a listing with its cards as they are: `ok bound 4 readings 3`, or why its scan may
+        not be done. The scan program stays as it is."""
+        self.write_binary_values(":DIAG:SCAN:CHEC? ", text.encode("utf-8", "surrogateescape"))
+        return self.read()[1:-1].replace('""', '"')
+
+    def program(self) -> str:
+        """The listing of the scan program; an empty text where there is none."""
+        self.write(":ROUT:SCAN:PROG?")
+        block = self.read_raw()
+        return block[2 + int(block[1:2]):].decode("ascii").removesuffix("\n")
+
     def _raise_more_than(self, before: int) -> None:
         if self._queued > before:
             self._queued = 0

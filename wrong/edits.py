@@ -9,7 +9,7 @@
 `fn:` is the function, below its modules, whose contract has to refuse the edit. `old:` stands once in the file, and
 `new:` in its place; each is the rest of its line behind one space. A further pair applies to what those before it made,
 in the same file up to the next `file:`. An edit without `fn:`, as one of a constant, may be refused by any function.
-A block with the line `always:` is tried by each gate, whatever is recorded (wrong/always).
+A block with the line `always:` is tried by each gate, whatever is recorded.
 An edit of a definition (`file: specs/..`) turns code and definition alike, and its `fn:` is the law that refuses it.
 """
 import os

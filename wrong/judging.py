@@ -1,8 +1,8 @@
 """What the prover says of wrong bodies, and which of them that refuses.
 
-Edits of different functions are tried together in one check, since each function is proved against the contracts of
-the others and not against their bodies. An edit counts as refused there only by an open goal or an error of its own
-function. Where the check didn't come to a function because it calls another that is turned too, the edit is tried
+Edits of different functions are tried together in one check of these functions, since each is proved against the
+contracts of the others and not against their bodies. An edit counts as refused there only by an open goal or an error
+of its own function. Where the check didn't come to a function because it calls another that is turned too, the edit is tried
 together with those left over; what is not seen to be refused otherwise is tried once more alone. An edit that the
 prover cannot read is a fault of the edit, and is found by halves of its batch. An edit without a function is tried
 alone; one of a definition by a check of the law that it names, and no more of the crate.
@@ -59,9 +59,9 @@ class Said:
 
     def __init__(self, crate, status, lines):
         self.lines = lines
-        verdict = next((it for it in reversed(lines) if it.startswith("logic=")), "")
-        self.is_proved = status == 0 and verdict.startswith("logic=proved")
-        self.is_judged = self.is_proved or verdict.startswith("logic=not-proved")
+        verdict = next((it for it in reversed(lines) if it.startswith(("logic=", "only="))), "")
+        self.is_proved = status == 0 and verdict.startswith(("logic=proved", "only="))
+        self.is_judged = self.is_proved or status == 1 and verdict.startswith(("logic=not-proved", "only="))
         self.is_read = not any(re.match(r"(\./)?(src|specs)/\S+?:\d+:\d+: error: (?!`)", it) for it in lines)
         self.is_judged = self.is_judged and self.is_read
         self.is_refused = status != 0
@@ -110,10 +110,14 @@ class Said:
         return next((it for it in self.lines if ": error" in it), self.lines[0] if self.lines else "")[:160]
 
 
-def said_of(room, texts, only=None):
-    """What a check says of the crate with these texts in place of its own, or of one function of it."""
-    status, lines = room.check(texts, only)
-    return Said(room.crate, status, lines)
+def functions_of(edits):
+    """The functions to check for these edits: none stands for the whole crate, as one without a function needs it."""
+    return sorted({it.function for it in edits}) if all(it.function for it in edits) else []
+
+
+def said_of(room, edits, texts, jobs=1):
+    """What a check for these edits says of the crate with these texts in place of its own."""
+    return Said(room.crate, *room.check(texts, functions_of(edits), jobs))
 
 
 def batches_of(edits, folder):
@@ -134,9 +138,9 @@ def batches_of(edits, folder):
 
 
 def try_alone(room, edit):
-    said = said_of(room, applied(edit, {}, room.clean))
+    said = said_of(room, [edit], applied(edit, {}, room.clean))
     if said.is_proved:
-        return False, "NOT REFUSED: the crate is still proved with this edit"
+        return False, f"NOT REFUSED: {edit.function or 'the crate'} is still proved with this edit"
     if not said.is_judged:
         return False, f"BAD EDIT: the prover cannot read the edited text: {said.first_error()}"
     why = said.any_refusal()
@@ -147,7 +151,7 @@ def try_alone(room, edit):
 
 
 def try_definition(room, edit):
-    said = said_of(room, applied(edit, {}, room.clean), edit.function)
+    said = said_of(room, [edit], applied(edit, {}, room.clean))
     why = said.refusal_of_law(edit.function) if said.is_read else None
     if why:
         return True, f"refused alone: {why}"
@@ -162,7 +166,7 @@ def try_batch(room, group):
     if len(edits) == 1:
         yield edits[0], try_alone(room, edits[0])
         return
-    said = said_of(room, group["texts"])
+    said = said_of(room, edits, group["texts"])
     if not said.is_judged:
         for half in (edits[: len(edits) // 2], edits[len(edits) // 2 :]):
             for part in batches_of(half, room.clean):
@@ -197,12 +201,10 @@ def try_together(room, edits, folder):
 
 
 def try_edits(room, edits):
-    """Each edit, whether it is refused, and what is told of it, as soon as it is known; none of an unproved crate."""
+    """Each edit, whether it is refused, and what is told of it, as soon as it is known, in a crate that is proved."""
     faults = [(edit, fault_of(edit, room.clean)) for edit in edits]
     yield from ((edit, False, f"BAD EDIT: {fault}") for edit, fault in faults if fault)
     good = [edit for edit, fault in faults if not fault]
-    if not good or not said_of(room, {}).is_proved:
-        return
     together = [it for it in good if it.function and not it.turns_definition()]
     yield from ((edit, *became) for edit, became in try_together(room, together, room.clean))
     for edit in good:

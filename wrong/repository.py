@@ -9,36 +9,28 @@ An edit that names no function, or turns a definition or more than the text of o
 import fcntl
 import hashlib
 import os
+import pathlib
 import subprocess
-
-import seen
-from edits import edits_of
+import sys
 
 HERE = os.path.dirname(os.path.abspath(__file__))
+sys.path.append(f"{HERE}/../build")
+import seen
+from crates import Crates
+from edits import edits_of
+
 RT = os.environ.get("RT", "rt")
 
 
 class Repository:
     def __init__(self, root):
         self.root = root
-        self.crates = self.judging = self.known = None
-        self.below = {}
-        with open(f"{root}/crates.txt", encoding="utf-8") as lines:
-            for line in lines:
-                name, colon, libraries = line.partition("#")[0].partition(":")
-                if colon:
-                    self.below[name.split()[0]] = libraries.split()
+        self.texts = self.judging = self.known = None
+        self.crates = Crates(pathlib.Path(root), RT, None)
+        self.below = self.crates.below
         version = subprocess.run([RT, "version"], capture_output=True, text=True, check=True).stdout
         # By this a contract holds or doesn't, whatever the kit is called.
         self.logic = version.partition("logic ")[2] or version
-
-    def closure(self, crate):
-        """The crates of the repository that this one stands on, and itself, lowest first."""
-        found = []
-        for library in self.below[crate]:
-            if library in self.below:
-                found += [it for it in self.closure(library) if it not in found]
-        return [*found, crate]
 
     def edits(self, crate):
         try:
@@ -58,19 +50,20 @@ class Repository:
 
     def hash_of(self, edit):
         """The hash of all by which an edit is refused or not, by the texts as they were at the first call."""
-        if not self.crates:
-            self.crates = seen.Crates(self.root, self.below)
+        if not self.texts:
+            self.texts = seen.Crates(self.root, self.below)
             with open(f"{HERE}/judging.py", encoding="utf-8") as it:
                 self.judging = it.read()
         of_kit = sorted(it for it in self.below[edit.crate] if it not in self.below)
         told = (self.logic, of_kit, self.judging, edit.function, edit.pairs, edit.fault)
-        return hashlib.sha256(repr((told, self.crates.of_edit(edit))).encode()).hexdigest()
+        return hashlib.sha256(repr((told, self.texts.of_edit(edit))).encode()).hexdigest()
 
     def stale(self, edits):
-        """Those of these edits that aren't recorded as refused by what decides them now, each with its hash."""
+        """Those of these edits that aren't recorded as refused by what decides them now, or are always tried, each with
+        its hash."""
         record = self.record()
         hashes = {edit: self.hash_of(edit) for edit in edits}
-        return {edit: it for edit, it in hashes.items() if record.get(edit.key()) != it}
+        return {edit: it for edit, it in hashes.items() if edit.is_always or record.get(edit.key()) != it}
 
     def record(self):
         try:

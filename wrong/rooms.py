@@ -1,64 +1,45 @@
-"""The rooms in which wrong bodies are checked: copies of a crate and of what it stands on.
+"""The rooms in which wrong bodies are checked: copies of a crate, each with the work that its checks keep.
 
-A check reads the libraries of the crates below, and writes only into the crate's own `out/incremental`; where a library
-is missing or stale, `rt` removes its whole folder before it builds it anew. So a room has the libraries below as links
-to the repository's own files, and all that is written as copies.
+A room's checks stand on the libraries of the crates below as `build/lanes.py` has them, with what each states.
 """
-import os
+import pathlib
 import shutil
 import subprocess
 
-from repository import RT
-
-PARTS = ("src", "specs", "proofs")
-
-
-def linked(old, new):
-    """Makes a file another name of the old one, or a copy of it in another file system."""
-    try:
-        os.link(old, new)
-    except OSError:
-        shutil.copy2(old, new)
+from crates import PARTS
 
 
 class Room:
-    """A copy of a crate and of what it stands on, where edits are put in and checked."""
+    """A copy of a crate in a folder, where edits are put in and checked."""
 
-    def __init__(self, repository, crate, at, jobs):
-        self.crate, self.jobs, self.folder, self.unturned = crate, jobs, f"{at}/crates/{crate}", None
-        self.clean = f"{repository.root}/crates/{crate}"
-        crates = repository.closure(crate)
-        with open(f"{at}/crates.txt", "w", encoding="utf-8") as it:
-            it.writelines(f"{name}: {' '.join(repository.below[name])}\n" for name in crates)
-        if os.path.isfile(f"{repository.root}/HANDLES"):
-            shutil.copy(f"{repository.root}/HANDLES", at)
-        for name in crates:
-            for part in (*PARTS, "out/incremental" if name == crate else "out/rlib"):
-                made = linked if part == "out/rlib" else shutil.copy2
-                if os.path.isdir(f"{repository.root}/crates/{name}/{part}"):
-                    folder = f"crates/{name}/{part}"
-                    shutil.copytree(f"{repository.root}/{folder}", f"{at}/{folder}", copy_function=made)
+    def __init__(self, crates, crate, at):
+        self.crates, self.crate, self.folder = crates, crate, pathlib.Path(at)
+        self.clean = crates.root / "crates" / crate
+        for part in PARTS:
+            self.restore(part)
 
-    def check(self, texts, only=None):
-        """The status and the lines of a check of the crate with these texts in place of its own, or of one function.
+    def restore(self, part):
+        """Makes a part of the crate here what it is in the repository."""
+        shutil.rmtree(self.folder / part, ignore_errors=True)
+        if (self.clean / part).is_dir():
+            shutil.copytree(self.clean / part, self.folder / part)
 
-        The crate as it is, is checked once.
-        """
-        if not texts and not only:
-            self.unturned = self.unturned or self.run(texts)
-            return self.unturned
-        return self.run(texts, only)
+    def another(self, at):
+        """A further room of the same crate, which begins with the work that this one's checks kept."""
+        if (self.folder / "kept").is_dir():
+            shutil.copytree(self.folder / "kept", pathlib.Path(at) / "kept")
+        return Room(self.crates, self.crate, at)
 
-    def run(self, texts, only=None):
-        """A check that is made now."""
+    def check(self, texts, functions, jobs=1):
+        """The status and the lines of a check of these functions, or with none, of the crate, with these texts in place
+        of its own."""
         for part in ("src", "specs"):
-            shutil.rmtree(f"{self.folder}/{part}", ignore_errors=True)
-            if os.path.isdir(f"{self.clean}/{part}"):
-                shutil.copytree(f"{self.clean}/{part}", f"{self.folder}/{part}")
+            self.restore(part)
         for path, text in texts.items():
-            with open(f"{self.folder}/{path}", "w", encoding="utf-8") as it:
-                it.write(text)
-        words = [RT, "check", "--jobs", str(self.jobs)] + (["--only", f"{self.crate}::{only}"] if only else [])
-        ran = subprocess.run(words, cwd=self.folder, stdin=subprocess.DEVNULL,
-                             stdout=subprocess.PIPE, stderr=subprocess.STDOUT, text=True, errors="replace")
+            (self.folder / path).write_text(text, encoding="utf-8")
+        words = [*self.crates.check(self.crate, jobs), "--incremental", str(self.folder / "kept")]
+        for function in functions:
+            words += ["--only", f"{self.crate}::{function}"]
+        ran = subprocess.run(words, cwd=self.folder, stdin=subprocess.DEVNULL, stdout=subprocess.PIPE,
+                             stderr=subprocess.STDOUT, text=True, errors="replace")
         return ran.returncode, ran.stdout.split("\n")

@@ -11,7 +11,7 @@ STUBS = [
 ]
 # Answers that take no memory.
 PRINTED = rb'(\d+|\d+\.\d{6}|-?\d+,"[^"]*"|OPENBENCH,SWM8,0,1\.0|1999\.0|IMM|BUS|EXT|TIM|HOLD' \
-    rb'|OPENBENCH,0,0,0|SURE|UNS|EMPT)[;\n]'
+    rb'|OPENBENCH,0,0,0|SURE|UNS|EMPT|#10)[;\n]'
 
 
 # ---- transcripts as units

@@ -6,7 +6,8 @@ from support.process import ANSWERED
 def help_is_told(program):
     for words, wanted in [
         (["--help"], [b"run", b"Answer each line of standard input on standard output", b"serve", b"--version"]),
-        (["run", "--help"], [b"--fuse <K>", b"Let the K-th closing of slot 1 fail, K from 1 to 1000000", b"--rack <FILE>"]),
+        (["run", "--help"], [b"--fuse <K>", b"Let the K-th closing of slot 1 fail, K from 1 to 1000000", b"--rack <FILE>",
+                             b"--program <FILE>"]),
         (["rack", "--help"], [b"<FILE>", b"reach each card; nothing moves"]),
         (["off", "--help"], [b"--rack <FILE>", b"Switch off every relay"]),
         (["serve", "--help"], [b"--port <P>", b"Listen on port P, from 1 to 65535", b"4880",
@@ -29,11 +30,13 @@ def command_lines_are_refused(program):
     for words in [
         [], ["walk"], ["run", "now"], ["run", "--fuse"], ["run", "--fuse", "0"], ["run", "--fuse", "1000001"],
         ["run", "--fuse", "-1"], ["run", "--fuse", "two"], ["run", "--fuse", "4294967296"], ["run", "--loud"],
-        ["run", "--fuse", "1", "--fuse", "2"], ["check", "now"], ["check", "--fuse", "1"],
+        ["run", "--fuse", "1", "--fuse", "2"], ["run", "--program"], ["check", "--program", "x"], ["check", "now"],
+        ["check", "--fuse", "1"],
         ["serve", "now"], ["serve", "--port"], ["serve", "--port", "0"], ["serve", "--port", "65536"],
         ["serve", "--port", "-1"], ["serve", "--port", "hislip"], ["serve", "--fuse", "1"],
         ["serve", "--address"], ["serve", "--address", "localhost"], ["serve", "--address", "127.0.0.1:80"],
         ["rack"], ["rack", "a", "b"], ["off"], ["off", "--rack"], ["run", "--fuse", "1", "--rack", "a"],
+        ["run", "--program", "a", "--rack", "b"],
         ["serve", "--address", "1.2.3"], ["serve", "--log", "1"], ["serve", "--until-end-of-input", "1"],
     ]:
         done = program.run(words, b"*IDN?\n")

@@ -40,6 +40,11 @@ def check_good_again(client, board, what):
     same(f"{what}: on", board.on(), [5])
 
 
+def check_told(client, what, told):
+    """What QUEStionable's condition and slot 1 tell of the relays, once no failure stands any more."""
+    same(f"{what}: told", client.query("*RST;:STAT:QUES:COND?;:SYST:CTYP:STAT? 1"), told)
+
+
 def a_board_whose_cable_is_out(program, folder):
     """While the board can't be asked, nothing is closed anywhere: the relay may be closed against its account."""
     with bench(folder) as (board, _, path), served_by(program, path) as served, client_of(served) as client:
@@ -47,8 +52,10 @@ def a_board_whose_cable_is_out(program, folder):
         check_refused(client, "the cable is out", "ROUT:OPEN (@1!3)")
         check_refused(client, "another card", "ROUT:CLOS (@3!1)")
         same("the relay is still on", board.on(), [2])
+        check_told(client, "the cable is out", "512;UNS")
         board.plug()
         check_good_again(client, board, "the cable is in")
+        check_told(client, "the cable is in", "0;SURE")
         served.check_alive()
 
 

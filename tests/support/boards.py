@@ -134,18 +134,28 @@ class ModbusBoard(Coils):
 
 
 class LineBoard(Coils):
-    """A board that obeys `set N 1`, `set N 0` and `get N`, N from 1, and answers `ok`, `1` or `0`, each a line."""
+    """A board that obeys `set N 1`, `set N 0`, `clear` and `get N`, N from 1, and answers `ok`, `1` or `0`, each a
+    line. `heeds` is called with each line: whether the board does it, and an answer in place of its own, if any."""
+
+    heeds = staticmethod(lambda line: (True, b""))
 
     def answer(self, heard):
-        line = heard.readline()
+        line = heard.readline().decode().strip()
         if not line:
             raise EOFError
-        self.asked.append(line.decode().strip())
-        word, channel, *state = line.split()
+        self.asked.append(line)
+        is_done, other = self.heeds(line)
+        told = self.carry_out(*line.split()) if is_done else b"ok\n"
+        return other or told
+
+    def carry_out(self, word, channel="1", state="0"):
         at = int(channel) - 1
-        if word == b"get":
+        if word == "get":
             return b"%d\n" % self.coils[at]
-        self.switch(at, [state == [b"1"]])
+        if word == "clear":
+            self.switch(0, [False] * len(self.coils))
+        else:
+            self.switch(at, [state == "1"])
         return b"ok\n"
 
 

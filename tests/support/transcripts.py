@@ -5,10 +5,12 @@ FOLDER = ROOT / "tests/transcripts"
 
 
 def typed():
-    """The file of each transcript that is typed, and the words of the command line."""
+    """The file of each transcript that is typed, and the words of the command line; a word that names a file beside it
+    becomes that file."""
     for path in sorted(FOLDER.glob("*.in")):
         more = path.with_suffix(".args")
-        yield path, ["run", *(more.read_text().split() if more.exists() else [])]
+        words = more.read_text().split() if more.exists() else []
+        yield path, ["run", *(str(FOLDER / word) if (FOLDER / word).is_file() else word for word in words)]
 
 
 def listings():

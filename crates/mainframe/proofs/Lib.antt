@@ -4,9 +4,9 @@ mod KeptLemmas
 mod TurnLemmas
 mod WholeRunLemmas
 mod RunsLemmas
+mod LoadingLemmas
 mod StandLemmas
 mod DeterminedLemmas
-mod ListingsLemmas
 mod WelcomeLemmas
 mod RackLemmas
 mod RackLineLemmas

@@ -1,24 +1,27 @@
 -- A run, one line further.
-use Rattle.std.proofs.Common.{◌≡◌, ◌≢◌, ℕ, List, [], ◌∷◌, ◌++◌, length, take, Option, Some, None, IfSome, Result, Ok, Err, OnOk, IfErr, inr, All}
+use Rattle.std.proofs.Common.{◌≡◌, ◌≢◌, ℕ, List, [], ◌∷◌, ◌++◌, length, take, Option, Some, None, IfSome, Result, Ok, Err, OnOk, IfErr, inl, inr, All}
+use Rattle.std.specs.Result.{IsErrAnd}
+use Rattle.std.proofs.lemmas.Result.{err_from_is_err_and}
 use Rattle.std.proofs.Common.{Bool, true, false, ◌==◌, ◌-◌, zero, suc, drop, refl, ap, sym, ◌∙◌, subst, append_assoc, arith}
 use Rattle.std.proofs.lemmas.List.{append-nil}
 use Rattle.std.specs.Io.KnownBytes.{Appends, Keeps, IsAtEnd}
 use Rattle.std.specs.Io.BufRead.{take_through, drop_through, DropsThrough}
 use Rattle.sw_core.specs.declared.ask.Sid.{Sid}
 use Rattle.sw_core.specs.Panel.{Panel}
-use Rattle.sw_macro.specs.Table.{Table, no_macros}
+use Rattle.sw_macro.specs.Table.{Table}
 use Rattle.sw_session.specs.CoreDesk.{desk_over, DeskSeen, CorePasses, WaitsOut}
 use Rattle.sw_session.specs.Talk.{state, Talked}
+use Rattle.sw_session.specs.Trace.{Entry, Leads}
 use Rattle.mainframe.specs.Lines.{lines_of}
 use Rattle.sw_session.specs.ServeWrite.{WritesPart}
 use Rattle.sw_serve.specs.SlotCards.{PlacedCard, IsSetUp, IsDeskForOne}
-use Rattle.mainframe.specs.Run.{RunState, begins_over, Line, Run, Runs, AnsweredFrom, PartFrom, CutFrom, EndsFrom}
+use Rattle.mainframe.specs.Run.{RunState, begins_at, Line, Run, Runs, RunsFrom, AnswersFrom, Unbegun, AnsweredFrom, PartFrom, CutFrom, EndsFrom}
 use Rattle.mainframe.specs.declared.fault.RunFault.{RunFault}
 use Rattle.mainframe.specs.declared.fault.RunFault.TheVariants.{Input, Output, Memory, Listen, Descriptors}
 use Rattle.sw_base.specs.Limits.{most_kept}
 use Rattle.mainframe.specs.Kept.{CutsLine, ShowsLine, LosesFront}
 use Rattle.mainframe.specs.Turns.{Gathers, Stand, Streams, TakesTurns, IsOfReading}
-use Rattle.mainframe.proofs.TurnLemmas.{gathers-none, gathers-more, gathers-written, gathers-part, reads-gathers}
+use Rattle.mainframe.proofs.TurnLemmas.{gathers-none, gathers-more, gathers-written, gathers-part, reads-gathers, keeps-same}
 use Rattle.mainframe.proofs.LinesLemmas.{lines_of-through}
 use Rattle.mainframe.proofs.WholeRunLemmas.{whole-of, whole-to}
 use Rattle.sw_core.specs.Run.{EveryRunIsGood}
@@ -218,36 +221,76 @@ shown-taken (Some xs) None r2 n kept Shown shows keeps shown loses = absurd keep
 shown-taken (Some xs) (Some ys) r2 n kept Shown (here, whole) keeps shown loses =
     (whole.1, loses shown ∙ ap (λ l. Some (drop n l)) keeps ∙ ap (λ m. Some (drop m xs)) whole.0 ∙ ap Some (drop-through xs))
 
+-- what a run comes to where there was none for what is asked first, and where it was asked
+pub runs-unbegun : (sid : Sid) (first : List Entry) (desk : DeskSeen) (result : Result (Unit {0}) RunFault) (fault : RunFault) (r c : Option (List ℕ))
+    → IsErrAnd result (λ e. e ≡ fault) → fault ≡ Memory → IfSome r (λ input. RunsFrom sid first desk result input r c c)
+runs-unbegun sid first desk result fault None c is memory = tt
+runs-unbegun sid first desk result fault (Some input) c is memory =
+    let p = err_from_is_err_and result is in
+    let none : Unbegun p.0 input (Some input) c c = record { memory = p.2 ∙ memory; unread = refl; unwritten = keeps-same c } in
+    inl (subst (λ (x : Result (Unit {0}) RunFault). IsErrAnd x (λ e. Unbegun e input (Some input) c c)) (sym p.1) none)
+
+pub runs-from : (sid : Sid) (first : List Entry) (desk start : DeskSeen) (result : Result (Unit {0}) RunFault) (r left old new : Option (List ℕ))
+    → Leads CorePasses desk first start → OnOk result (IfSome r (λ input. AnsweredFrom sid (begins_at start) input [] old new))
+    → OnOk result (IfSome r (λ _. IsAtEnd left)) → IfErr result (λ fault. IfSome r (λ input. EndsFrom sid (begins_at start) fault input left old new))
+    → IfSome r (λ input. RunsFrom sid first desk result input left old new)
+runs-from sid first desk start result None left old new leads ok all err = tt
+runs-from sid first desk start result (Some input) left old new leads ok all err =
+    inr (record { start = start; asked = leads; answered = ok; all = all; fault = err })
+
+-- one call of the desk
+pub leads-one : (old new : DeskSeen) (entry : Entry) (result : Result (Unit {0}) RunFault) → OnOk result (CorePasses old entry new)
+    → OnOk result (Leads CorePasses old (entry ∷ []) new)
+leads-one old new entry (Ok done) passes = (new, passes, refl)
+leads-one old new entry (Err fault) passes = tt
+
 -- what the loop over the lines comes to, from a mainframe that was set up
-runs_set_up : EveryRunIsGood → (cards : List PlacedCard) (sid : Sid) (start : Panel) (result : Result (Unit {0}) RunFault) (r0 left old new : Option (List ℕ)) → IsSetUp cards
-    sid start
-    → OnOk result (IfSome r0 (λ input. AnsweredFrom sid (begins_over start) input [] old new)) → OnOk result (IfSome r0 (λ _. IsAtEnd left))
-    → IfErr result (λ fault. IfSome r0 (λ input. EndsFrom sid (begins_over start) fault input left old new))
-    → IfSome r0 (λ input. Runs cards result input left old new)
-runs_set_up law cards sid start result None left old new s ok all err = tt
-runs_set_up law cards sid start (Ok done) (Some input) left old new s ok all err =
-    let whole = whole-of law cards sid start input [] ok.bytes s ok.runs in
-    record { answered = record { sid = sid; start = start; set_up = s; answered = ok; whole = whole }; all = all; fault = tt }
-runs_set_up law cards sid start (Err fault) (Some input) left old new s ok all err =
-    let whole = whole-to law cards sid start fault input left old new s err in
-    record { answered = tt; all = tt; fault = inr (record { sid = sid; start = start; set_up = s; ends = err; whole = whole }) }
+runs_set_up : EveryRunIsGood → (first : Sid → List Entry) (cards : List PlacedCard) (sid : Sid) (fitted : Panel) (result : Result (Unit {0}) RunFault)
+    (input : List ℕ) (left old new : Option (List ℕ)) → IsSetUp cards sid fitted
+    → AnswersFrom sid (first sid) (desk_over fitted) result input left old new → Runs first cards result input left old new
+runs_set_up law first cards sid fitted (Ok done) input left old new s a =
+    let whole = whole-of law (first sid) cards sid fitted a.start input [] a.answered.bytes s a.asked a.answered.runs in
+    record {
+      answered = record {
+        sid = sid;
+        start = a.start;
+        begins = record { fitted = fitted; set_up = s; asked = a.asked };
+        answered = a.answered;
+        whole = whole;
+      };
+      all = a.all;
+      fault = tt;
+    }
+runs_set_up law first cards sid fitted (Err fault) input left old new s a =
+    let whole = whole-to law (first sid) cards sid fitted a.start fault input left old new s a.asked a.fault in
+    record {
+      answered = tt;
+      all = tt;
+      fault = inr (record {
+        sid = sid;
+        start = a.start;
+        begins = record { fitted = fitted; set_up = s; asked = a.asked };
+        ends = a.fault;
+        whole = whole;
+      });
+    }
 
-OnOk_map : {T E X Y : Type 0} (r : Result T E) → (X → Y) → OnOk r X → OnOk r Y
-OnOk_map (Ok t) f h = f h
-OnOk_map (Err e) f h = tt
+runs_not : (first : Sid → List Entry) (cards : List PlacedCard) (result : Result (Unit {0}) RunFault) (input : List ℕ) (left old new : Option (List ℕ))
+    → IsErrAnd result (λ fault. Unbegun fault input left old new) → Runs first cards result input left old new
+runs_not first cards (Ok done) input left old new none = absurd none
+runs_not first cards (Err fault) input left old new none = record { answered = tt; all = tt; fault = inl none }
 
-IfErr_map : {T E : Type 0} {X Y : E → Type 0} (r : Result T E) → ((e : E) → X e → Y e) → IfErr r X → IfErr r Y
-IfErr_map (Ok t) f h = tt
-IfErr_map (Err e) f h = f e h
+runs_either : EveryRunIsGood → (first : Sid → List Entry) (cards : List PlacedCard) (sid : Sid) (fitted : Panel) (result : Result (Unit {0}) RunFault)
+    (input : List ℕ) (left old new : Option (List ℕ)) → IsSetUp cards sid fitted
+    → RunsFrom sid (first sid) (desk_over fitted) result input left old new → Runs first cards result input left old new
+runs_either law first cards sid fitted result input left old new s (inl none) = runs_not first cards result input left old new none
+runs_either law first cards sid fitted result input left old new s (inr a) = runs_set_up law first cards sid fitted result input left old new s a
 
 -- and from the desk over it
-pub runs_begun : EveryRunIsGood → (cards : List PlacedCard) (sid : Sid) (desk spoken : DeskSeen) → IsDeskForOne cards sid spoken → desk ≡ spoken
-    → (result : Result (Unit {0}) RunFault) (r0 left old new : Option (List ℕ))
-    → OnOk result (IfSome r0 (λ input. AnsweredFrom sid (state desk no_macros) input [] old new)) → OnOk result (IfSome r0 (λ _. IsAtEnd left))
-    → IfErr result (λ fault. IfSome r0 (λ input. EndsFrom sid (state desk no_macros) fault input left old new))
-    → IfSome r0 (λ input. Runs cards result input left old new)
-runs_begun law cards sid desk spoken up same result r0 left old new ok all err =
-    let is = same ∙ up.over in
-    runs_set_up law cards sid up.panel result r0 left old new up.set_up (OnOk_map result (λ h.
-    subst (λ (d : DeskSeen). IfSome r0 (λ input. AnsweredFrom sid (state d no_macros) input [] old new)) is h) ok) all (IfErr_map result (λ fault h.
-    subst (λ (d : DeskSeen). IfSome r0 (λ input. EndsFrom sid (state d no_macros) fault input left old new)) is h) err)
+pub runs_begun : EveryRunIsGood → (first : Sid → List Entry) (cards : List PlacedCard) (sid : Sid) (desk spoken : DeskSeen) → IsDeskForOne cards sid spoken
+    → desk ≡ spoken → (result : Result (Unit {0}) RunFault) (r left old new : Option (List ℕ))
+    → IfSome r (λ input. RunsFrom sid (first sid) desk result input left old new) → IfSome r (λ input. Runs first cards result input left old new)
+runs_begun law first cards sid desk spoken up same result None left old new runs = tt
+runs_begun law first cards sid desk spoken up same result (Some input) left old new runs =
+    runs_either law first cards sid up.panel result input left old new up.set_up
+    (subst (λ (d : DeskSeen). RunsFrom sid (first sid) d result input left old new) (same ∙ up.over) runs)

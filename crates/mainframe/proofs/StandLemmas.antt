@@ -1,10 +1,14 @@
 -- How a run goes on from one stand to another, and how it stops.
 use Rattle.std.proofs.Common.{◌≡◌, ◌≢◌, ℕ, List, [], ◌∷◌, ◌++◌, take, Option, IfSome, Result, Err, ◌⊎◌, inl, inr, refl, ap, sym, subst}
+use Rattle.std.specs.Result.{IsErrAnd}
+use Rattle.std.proofs.lemmas.Result.{err_from_is_err_and}
 use Rattle.std.specs.Io.KnownBytes.{Appends, Keeps, IsAtEnd}
 use Rattle.std.specs.Io.BufRead.{take_through, DropsThrough}
 use Rattle.sw_core.specs.declared.ask.Sid.{Sid}
+use Rattle.sw_macro.specs.Table.{Table, no_macros}
 use Rattle.sw_session.specs.CoreDesk.{DeskSeen}
 use Rattle.sw_session.specs.ServeWrite.{WritesPart}
+use Rattle.sw_session.specs.Talk.{state}
 use Rattle.mainframe.specs.declared.fault.RunFault.{RunFault}
 use Rattle.mainframe.specs.declared.fault.RunFault.TheVariants.{Input, Output, Memory, Listen, Descriptors}
 use Rattle.sw_base.specs.Limits.{most_kept}
@@ -218,3 +222,28 @@ pub stopped-asks : {S W : Type 0} {known : Streams S W} {sid : Sid} {a : Stand S
     → (left : ℕ) × AsksInTurn known sid a left source
     × (◌≡◌ {A = Result (Unit {0}) RunFault} (Err fault) (Err Input) → FailsAfter failed left source ⊎ IsInVain desk)
 stopped-asks {fault = fault} failed s = (s.left, s.asks, λ e. inr (s.vain (same-fault fault Input e)))
+
+-- what was asked up to a fault that is passed on as it came
+pub asks-at : {S W : Type 0} {known : Streams S W} {sid : Sid} {a : Stand S W} {source : S} {Fails : ℕ → Type 0} (r : Result (Unit {0}) RunFault)
+    (fault : RunFault) → IsErrAnd r (λ e. e ≡ fault)
+    → (left : ℕ) × AsksInTurn known sid a left source × (◌≡◌ {A = Result (Unit {0}) RunFault} (Err fault) (Err Input) → Fails left)
+    → (left : ℕ) × AsksInTurn known sid a left source × (r ≡ Err Input → Fails left)
+asks-at r fault is (left, asks, fails) = let p = err_from_is_err_and r is in (left, asks, λ e. fails (cc (p.1, p.2, e)))
+
+-- what is so of a session and of where it begins
+pub begins-so : {sid sid' : Sid} {desk : DeskSeen} {macros : Table} (P : Sid → RunState → Type 0) → sid' ≡ sid → macros ≡ no_macros → P sid' (state desk macros)
+    → P sid (state desk no_macros)
+begins-so {sid' = sid'} {desk = desk} P sids none h =
+    subst (λ (s : Sid). P s (state desk no_macros)) sids (subst (λ (t : Table). P sid' (state desk t)) none h)
+
+pub asks-so : {S W : Type 0} {known : Streams S W} {sid sid' : Sid} {desk : DeskSeen} {macros : Table} {old source : S} {writer : W} {n m : ℕ} {Fails : ℕ → Type 0}
+    → sid' ≡ sid → macros ≡ no_macros → n ≡ m
+    → (left : ℕ) × AsksInTurn known sid' (stand (state desk macros) old writer [] n) left source × Fails left
+    → (left : ℕ) × AsksInTurn known sid (stand (state desk no_macros) old writer [] m) left source × Fails left
+asks-so {known = known} {sid = sid} {sid' = sid'} {desk = desk} {macros = macros} {old = old} {source = source} {writer = writer} {n = n} {m = m} sids none same
+    (left, asks, fails) =
+    let begun = λ (s : Sid) (t : Table) (k : ℕ). AsksInTurn known s (stand (state desk t) old writer [] k) left source in (
+      left,
+      subst (λ (s : Sid). begun s no_macros m) sids (subst (λ (t : Table). begun sid' t m) none (subst (λ (k : ℕ). begun sid' macros k) same asks)),
+      fails,
+    )

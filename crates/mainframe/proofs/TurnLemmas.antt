@@ -2,6 +2,8 @@
 use Rattle.std.proofs.Common.{◌≡◌, ◌≢◌, ℕ, zero, suc, ◌+◌, List, [], ◌∷◌, ◌++◌, Option, Some, None, IfSome, take, refl, sym, ap, subst, ◌∙◌, inl, inr, arith}
 use Rattle.std.proofs.Common.{append_assoc, take_all, zero-le, Result, Ok, Err, OnOk, OnErr}
 use Rattle.std.proofs.lemmas.List.{append-nil}
+use Rattle.std.specs.Result.{IsErrAnd, IfErr}
+use Rattle.std.proofs.lemmas.Result.{err_from_is_err_and}
 use Rattle.std.specs.Io.KnownBytes.{Appends, Keeps}
 use Rattle.std.specs.Io.BufRead.{take_through, drop_through, DropsThrough}
 use Rattle.sw_core.specs.declared.ask.Sid.{Sid}
@@ -171,3 +173,8 @@ on-ok (Err e) f p = tt
 pub on-err : {T E : Type 0} {P Q : Type 0} (r : Result T E) → (P → Q) → OnErr r P → OnErr r Q
 on-err (Ok x) f p = tt
 on-err (Err e) f p = f p
+
+-- a fault that is passed on as it came
+pub at-fault : {T E : Type 0} (P : E → Type 0) (r : Result T E) (fault : E) → IsErrAnd r (λ e. e ≡ fault) → P fault → IfErr r P
+at-fault {T = T} {E = E} P r fault is h =
+    let p = err_from_is_err_and r is in subst (λ (x : Result T E). IfErr x P) (sym p.1) (subst (λ (e : E). P e) (sym p.2) h)

@@ -13,13 +13,13 @@ use Rattle.sw_core.specs.Run.{EveryRunIsGood}
 use Rattle.sw_core.specs.Seen.{AskSession, AskInstall, SaysSession, SaysInstalled}
 use Rattle.sw_core.specs.Step.{Step}
 use Rattle.sw_session.specs.declared.desk.Wake.TheVariants.{Again}
-use Rattle.sw_session.specs.CoreDesk.{last_wait}
+use Rattle.sw_session.specs.CoreDesk.{DeskSeen, CorePasses, desk_over, last_wait}
 use Rattle.sw_session.specs.DeskRuns.{Exchange, asked_in}
-use Rattle.sw_session.specs.Trace.{Waited}
+use Rattle.sw_session.specs.Trace.{Entry, Waited, Leads}
 use Rattle.sw_session.proofs.DeskRunsLemmas.{RunsAsking, stays, begins, goes-on, leads-runs}
 use Rattle.sw_serve.specs.SlotCards.{PlacedCard, TakesCards, Joins, IsSetUp}
 use Rattle.sw_serve.proofs.FittingLemmas.{joined_bare}
-use Rattle.mainframe.specs.Run.{RunState, begins_over, Line, Run, RunsTo, EndsFrom, asks_over, IsWholeOf, IsWholeTo}
+use Rattle.mainframe.specs.Run.{RunState, begins_at, Line, Run, RunsTo, EndsFrom, asks_over, IsWholeOf, IsWholeTo}
 use Rattle.mainframe.specs.declared.fault.RunFault.{RunFault}
 use Rattle.mainframe.specs.declared.fault.RunFault.TheVariants.{Input, Output, Memory, Listen, Descriptors}
 use Rattle.mainframe.proofs.DeterminedLemmas.{join_unfailed}
@@ -61,21 +61,26 @@ answers-all sid s (l ∷ ls) bytes s' (told, mid, more, line, run, is) =
     goes-on s.desk.panel mid.desk.panel s'.desk.panel (asked_in line.talked.trace) (asks_over sid mid ls more s' run) (answers sid s mid l told line)
     (answers-all sid mid ls more s' run)
 
-pub whole-of : EveryRunIsGood → (cards : List PlacedCard) (sid : Sid) (start : Panel) (input rest bytes : List ℕ) → IsSetUp cards sid start
-    → (r : RunsTo sid (begins_over start) input rest bytes) → IsWholeOf sid (begins_over start) input rest bytes r
-whole-of law cards sid start input rest bytes s r =
-    let asks = asks_over sid (begins_over start) r.done bytes r.after r.run in
-    let w = joins sid s.begun r.after.desk.panel asks s.joined
-    (goes-on s.begun start r.after.desk.panel [] asks (fits cards s.begun start s.fitted) (answers-all sid (begins_over start) r.done bytes r.after r.run)) in
+pub whole-of : EveryRunIsGood → (first : List Entry) (cards : List PlacedCard) (sid : Sid) (fitted : Panel) (start : DeskSeen) (input rest bytes : List ℕ)
+    → IsSetUp cards sid fitted → Leads CorePasses (desk_over fitted) first start
+    → (r : RunsTo sid (begins_at start) input rest bytes) → IsWholeOf sid (asked_in first) (begins_at start) input rest bytes r
+whole-of law first cards sid fitted start input rest bytes s leads r =
+    let asks = asks_over sid (begins_at start) r.done bytes r.after r.run in
+    let lines = goes-on fitted start.panel r.after.desk.panel (asked_in first) asks (leads-runs (desk_over fitted) start first leads)
+    (answers-all sid (begins_at start) r.done bytes r.after r.run) in
+    let w = joins sid s.begun r.after.desk.panel (asked_in first ++ asks) s.joined
+    (goes-on s.begun fitted r.after.desk.panel [] (asked_in first ++ asks) (fits cards s.begun fitted s.fitted) lines) in
     record { runs = w.runs; asks_are = w.asks_is; good = law 0 0 w.runs.events w.runs.run }
 
-pub whole-to : EveryRunIsGood → (cards : List PlacedCard) (sid : Sid) (start : Panel) (fault : RunFault) (input : List ℕ) (left old new : Option (List ℕ))
-    → IsSetUp cards sid start → (ends : EndsFrom sid (begins_over start) fault input left old new)
-    → IsWholeTo sid (begins_over start) fault input left old new ends
-whole-to law cards sid start Input input left old new s ends =
-    whole-of law cards sid start input (ends.cut ++ ends.unread) ends.answered.bytes s ends.answered.runs
-whole-to law cards sid start Memory input left old new s ends =
-    whole-of law cards sid start input (ends.cut ++ ends.unread) ends.answered.bytes s ends.answered.runs
-whole-to law cards sid start Output input left old new s ends = whole-of law cards sid start input ends.rest ends.bytes s ends.runs
-whole-to law cards sid start Listen input left old new s ends = ends
-whole-to law cards sid start Descriptors input left old new s ends = ends
+pub whole-to : EveryRunIsGood → (first : List Entry) (cards : List PlacedCard) (sid : Sid) (fitted : Panel) (start : DeskSeen) (fault : RunFault)
+    (input : List ℕ) (left old new : Option (List ℕ)) → IsSetUp cards sid fitted → Leads CorePasses (desk_over fitted) first start
+    → (ends : EndsFrom sid (begins_at start) fault input left old new)
+    → IsWholeTo sid (asked_in first) (begins_at start) fault input left old new ends
+whole-to law first cards sid fitted start Input input left old new s leads ends =
+    whole-of law first cards sid fitted start input (ends.cut ++ ends.unread) ends.answered.bytes s leads ends.answered.runs
+whole-to law first cards sid fitted start Memory input left old new s leads ends =
+    whole-of law first cards sid fitted start input (ends.cut ++ ends.unread) ends.answered.bytes s leads ends.answered.runs
+whole-to law first cards sid fitted start Output input left old new s leads ends =
+    whole-of law first cards sid fitted start input ends.rest ends.bytes s leads ends.runs
+whole-to law first cards sid fitted start Listen input left old new s leads ends = ends
+whole-to law first cards sid fitted start Descriptors input left old new s leads ends = ends

@@ -3,7 +3,7 @@ use Rattle.std.specs.Prelude.{None, false, replicate, List, [], ◌∷◌}
 use Rattle.sw_card.specs.Account.{Account, MeterAccount, relay_account, of_meter}
 use Rattle.sw_serve.specs.SlotCards.{PlacedCard, placed}
 
--- four cards, of which the first is offered to slot 1, and so on
+-- four cards: the first is offered to slot 1, and so on
 abbrev pub in_slots : Account → Account → Account → Account → List PlacedCard
 in_slots first second third fourth =
     placed 1 first ∷ placed 2 second ∷ placed 3 third ∷ placed 4 fourth ∷ []

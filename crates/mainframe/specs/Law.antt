@@ -28,9 +28,9 @@ outcomes_in_run sid s (l ∷ ls) bytes s' run =
     outcomes_in_talk run.3.talked ∷ outcomes_at_rest run.3.rests
     ∷ outcomes_in_run sid run.1 ls run.2 s' run.4
 
--- Where no growth is refused, what is written is determined by the cards, by what is read, by what is measured, and by
--- what comes of the cards: for each call of the mainframe whether a card failed in it, and if so, how often each card
--- has failed after it; and whether a card that is asked says that it is sure of its relays.
+-- Where no growth is refused, the cards, what is read, what is measured and what the cards do determine what is
+-- written. What the cards do: for each call of the mainframe whether a card failed in it, and if so, how often each
+-- card has failed after it; and whether a card that is asked says that it is sure of its relays.
 abbrev pub RunIsDetermined : Type 0
 RunIsDetermined = (cards : List PlacedCard) (sid sid' : Sid) (start start' : Panel) (input bytes bytes' : List ℕ)
     → IsSetUp cards sid start → IsSetUp cards sid' start'

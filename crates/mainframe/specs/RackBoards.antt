@@ -17,7 +17,7 @@ use Rattle.sw_rack.specs.Templates.{rendered}
 use Rattle.mainframe.specs.declared.rack_cards.AnyBoard.{AnyBoard}
 use Rattle.mainframe.specs.declared.rack_cards.AnyBoard.TheVariants as boards
 
--- the coils of so many channels of a board that speaks Modbus: channel 1's is the first
+-- the coils of a board with this many channels that speaks Modbus: channel 1's is the first
 pub record AreCoilsOf (over : Wrapping) (channels : ℕ) (words : Modbus) (coils : Coils) : Type 0 where
   pub wrapping : coils.wrapping ≡ over
   pub unit : coils.unit ≡ words.unit
@@ -27,7 +27,7 @@ pub record AreCoilsOf (over : Wrapping) (channels : ℕ) (words : Modbus) (coils
 
 -- ---- lines that a board obeys
 
--- what is sent, how its answer ends, and what stands in the answer
+-- what is sent, how its answer ends, and what the answer has
 abbrev pub Sent : Type 0
 Sent = List ℕ × List ℕ × List ℕ
 
@@ -39,7 +39,7 @@ abbrev pub given : List ℕ → Option (List ℕ) → List ℕ
 given template None = template
 given template (Some sent) = sent
 
--- a line for each of so many channels, which ends so
+-- a line for each of this many channels, which ends so
 abbrev pub each_line : ℕ → List ℕ → List ℕ → List ℕ → List ℕ → List Sent
 each_line channels template end ending word =
     map (λ ch. (given template (rendered ch template) ++ end, ending, word)) (range_with_len 1 channels)
@@ -51,14 +51,14 @@ ended_lines lines end = map (λ line. string_bytes line ++ end) lines
 abbrev pub commands_for : List (String Global) → List ℕ → List ℕ → List ℕ → List Sent
 commands_for lines end ending word = map (λ line. (string_bytes line ++ end, ending, word)) lines
 
--- a query of each channel's state, where the board tells it, and what stands in the answer where it is on, or off
+-- a query of each channel's state, where the board reports it, and what the answer has where it is on, or off
 abbrev pub each_query : ℕ → Option State → Bool → List ℕ → List ℕ → List Sent
 each_query channels None on end ending = []
 each_query channels (Some state) on end ending =
     each_line channels (string_bytes state.query) end ending
     (if on then string_bytes state.on else string_bytes state.off)
 
--- the commands of a board with so many channels; each line that is sent ends by the first bytes, and each answer to a
+-- the commands of a board with this many channels; each line that is sent ends by the first bytes, and each answer to a
 -- query of a state by the others
 pub record AreCommandsOf (channels : ℕ) (words : Lines) (end ending : List ℕ) (c : Commands) : Type 0 where
   pub setup : map (λ line. line.items) c.setup.items ≡ ended_lines words.setup.items end

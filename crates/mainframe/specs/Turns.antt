@@ -25,7 +25,7 @@ most_unwritten = 65536
 abbrev pub Gathers : Option (List ℕ) → List ℕ → Option (List ℕ) → List ℕ → Type 0
 Gathers old bytes new unwritten = (front : List ℕ) × (bytes ≡ front ++ unwritten) × Appends old new front
 
--- the source is asked for bytes so often, each time while the writer is this one
+-- the source is asked for bytes this many times, each time while the writer is this one
 abbrev pub AsksWith : {S W : Type 0} → (S → W → S → Type 0) → S → W → ℕ → S → Type 0
 AsksWith asked old w zero new = new ≡ old
 AsksWith asked old w (suc n) new = (mid : _) × asked old w mid × AsksWith asked mid w n new
@@ -34,7 +34,7 @@ AsksWith asked old w (suc n) new = (mid : _) × asked old w mid × AsksWith aske
 abbrev pub Spends : {S W : Type 0} → (S → W → S → Type 0) → S → W → ℕ → ℕ → S → Type 0
 Spends asked old w turns left new = (n : ℕ) × (turns ≡ left + n) × AsksWith asked old w n new
 
--- the source is not asked for bytes, and moves so often
+-- the source is not asked for bytes, and moves this many times
 abbrev pub MovesUnasked : {S : Type 0} → (S → S → Type 0) → S → ℕ → S → Type 0
 MovesUnasked unasked old zero new = new ≡ old
 MovesUnasked unasked old (suc n) new = (mid : _) × unasked old mid × MovesUnasked unasked mid n new
@@ -42,7 +42,7 @@ MovesUnasked unasked old (suc n) new = (mid : _) × unasked old mid × MovesUnas
 abbrev pub IsUnasked : {S : Type 0} → (S → S → Type 0) → S → S → Type 0
 IsUnasked unasked old new = (n : ℕ) × MovesUnasked unasked old n new
 
--- why a read comes to nothing: no turn is left, or a read failed
+-- why a read gives nothing: no turn is left, or a read failed
 abbrev pub FailsAfter : {S : Type 0} → (S → S → Type 0) → ℕ → S → Type 0
 FailsAfter failed left new = (left ≡ 0) ⊎ ((old : _) × failed old new)
 
@@ -59,7 +59,7 @@ abbrev pub streams : {S W : Type 0} → (S → Option (List ℕ)) → (S → W �
 streams remaining asked unasked contents =
     record { remaining = remaining; asked = asked; unasked = unasked; contents = contents }
 
--- where a run stands: its desk and macros, its source and its writer, what was answered and not written yet, and how
+-- the state of a run: its desk and macros, its source and its writer, what was answered and not written yet, and how
 -- often the source may still be asked
 pub record Stand (S W : Type 0) : Type 0 where
   pub state : RunState
@@ -90,7 +90,7 @@ pub record AsksWritten {S W : Type 0} (known : Streams S W) (a b : Stand S W) : 
 abbrev pub ReadsOn : {S W : Type 0} → Streams S W → Stand S W → Stand S W → Type 0
 ReadsOn known a b = AsksNothing known a b ⊎ AsksWritten known a b
 
--- One line is read, then it is talked over, and then its answer is written or kept behind those that are not written.
+-- One line is read, then executed, and then its answer is written or kept behind the answers that are not written.
 pub record TakesTurn {S W : Type 0} (known : Streams S W) (sid : Sid)
     (a : Stand S W) (line : List ℕ) (b : Stand S W) : Type 0 where
   pub read : Stand S W
@@ -110,8 +110,8 @@ TakesTurns known sid a [] b = b ≡ a
 TakesTurns known sid a (line ∷ more) b =
     (mid : _) × TakesTurn known sid a line mid × TakesTurns known sid mid more b
 
--- All that a run asks of its source, down to so many turns: whole lines in turn, and then what is asked while all
--- answers to these are written, and no more than they.
+-- All that a run asks of its source, until this many turns are left: whole lines in turn, and then what is asked while
+-- all answers to these are written, and no more than they.
 pub record AsksInTurn {S W : Type 0} (known : Streams S W) (sid : Sid)
     (a : Stand S W) (left : ℕ) (source : S) : Type 0 where
   pub lines : List (List ℕ)
@@ -122,7 +122,7 @@ pub record AsksInTurn {S W : Type 0} (known : Streams S W) (sid : Sid)
   pub comes : source ≡ read.source
   pub spent : left ≡ read.turns
 
--- what was outstanding after a line was waited for in vain, as often as a desk waits at most
+-- the desk waited in vain for what was outstanding after a line, as often as it waits at most
 abbrev pub IsInVain : DeskSeen → Type 0
 IsInVain desk = (spoken : DeskSeen) × WaitsOut spoken false desk
 

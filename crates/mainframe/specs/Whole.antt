@@ -4,7 +4,7 @@ use Rattle.std.specs.Io.KnownBytes.{Consumes, IsAtEnd}
 use Rattle.mainframe.specs.declared.fault.RunFault.{RunFault}
 use Rattle.mainframe.specs.declared.fault.RunFault.TheVariants.{Input, Output, Memory, Listen, Descriptors}
 
--- A piece of it is read, and at Ok kept behind what was read before. It is said whether the reader is at its end then.
+-- A piece of it is read, and at Ok kept behind what was read before. Ok says whether the reader is at its end then.
 pub record TakesPiece (old new : Option (List ℕ)) (kept kept' : List ℕ) (result : Result Bool RunFault) : Type 0 where
   pub part : List ℕ
   pub consumed : Consumes old new part
@@ -20,8 +20,8 @@ pub record GivesWhole (old new : Option (List ℕ)) (bytes : List ℕ) : Type 0 
   pub consumed : Consumes old new bytes
   pub at_end : IsAtEnd new
 
--- Where a reader stands once a listing was to be read to its end and its judgement written: where a read failed, or
--- memory ran out, a front part is read, or all; where a write failed, all is.
+-- The state of a reader after a listing was to be read to its end and its judgement written. Where a read failed, or
+-- memory ran out, a front part is read, or all. Where a write failed, all is.
 abbrev pub StandsAt : RunFault → Option (List ℕ) → Option (List ℕ) → Type 0
 StandsAt Input old new = LosesPart old new
 StandsAt Memory old new = LosesPart old new

@@ -9,7 +9,7 @@ use sw_card::{Meter, Relay};
 use sw_kinds::{Fuse, Matrix, Mux, SimDriver, SimSource, Volt};
 use sw_serve::SlotCard;
 
-/// Slot 1: a multiplexer of 20 channels in group 1, of which the closing that `fuse` counts from 1 fails.
+/// Slot 1: a multiplexer of 20 channels in group 1. The closing that `fuse` counts from 1 fails.
 #[tactic(auto, unfolding(crate::specs::Cards::first_card))]
 pub fn first_card(fuse: Option<u32>) -> Mux<Fuse<SimDriver>>
     ensures { result.1 ≡ first_card }

@@ -41,6 +41,8 @@ const PORT: u16 = 4880;
 pub enum Order {
     /// To answer standard input. The closing of slot 1 that has this number, from 1, fails.
     Run(Option<u32>),
+    /// The same with the scan program that this file lists.
+    Program(Option<u32>, String),
     /// To answer standard input by the cards of this file's rack.
     RunRack(String),
     /// To check a listing on standard input, against this file's rack or the simulated cards.
@@ -61,7 +63,7 @@ pub struct Serving {
     pub port: u16,
     /// Until the end of standard input, and not for ever.
     pub until_end_of_input: bool,
-    /// Each connection is told of on standard error.
+    /// The server logs each connection on standard error.
     pub is_logged: bool,
 }
 
@@ -85,6 +87,8 @@ pub enum Unrun {
     Words(Error),
     /// The word behind `--address` is no address.
     Address,
+    /// There was no memory for the word behind `--program`.
+    Memory,
 }
 
 impl Unrun {
@@ -93,11 +97,12 @@ impl Unrun {
         match self {
             Unrun::Words(error) => error.kind(),
             Unrun::Address => ErrorKind::ValueValidation,
+            Unrun::Memory => ErrorKind::OutOfMemory,
         }
     }
 }
 
-/// What these words ask for, of which the first is the program's name, or why they ask for nothing to be run.
+/// What these words ask for, or why they ask for nothing to be run. The first word is the program's name.
 pub fn parse_words(alloc: Global, words: &[String]) -> Result<Order, Unrun> {
     match matches_of(alloc, words) {
         Ok(matches) => order_of(alloc, &matches),
@@ -112,29 +117,80 @@ fn matches_of<'a>(alloc: Global, words: &'a [String]) -> Result<ArgMatches<'a>, 
 
 /// The words that are understood.
 fn command_line<'a>(alloc: Global) -> Result<Command<'a>, AllocError> {
-    let fuse = Arg::new(alloc, "fuse")
+    let program = Command::new(alloc, "mainframe")
+        .about("A SCPI switch mainframe, of simulated cards or of a rack's")
+        .version("1.0")
+        .subcommand_required(true);
+    let program = with_order(program, run_words(alloc))?;
+    let program = with_order(program, check_words(alloc))?;
+    let program = with_order(program, serve_words(alloc))?;
+    let program = with_order(program, rack_words(alloc))?;
+    with_order(program, off_words(alloc))
+}
+
+/// The program's words with those of an order, where there was memory for them.
+fn with_order<'a>(
+    program: Command<'a>,
+    order: Result<Command<'a>, AllocError>,
+) -> Result<Command<'a>, AllocError> {
+    match order {
+        Ok(order) => program.subcommand(order),
+        Err(error) => {
+            drop(program);
+            Err(error)
+        }
+    }
+}
+
+/// An order's words with one more, where there was memory for it.
+fn with_word<'a>(
+    order: Command<'a>,
+    word: Result<Arg<'a>, AllocError>,
+) -> Result<Command<'a>, AllocError> {
+    match word {
+        Ok(word) => order.arg(word),
+        Err(error) => {
+            drop(order);
+            Err(error)
+        }
+    }
+}
+
+/// The words of `run`.
+fn run_words<'a>(alloc: Global) -> Result<Command<'a>, AllocError> {
+    let run = Command::new(alloc, "run").about(
+        "Answer each line of standard input on standard output",
+    );
+    let run = with_word(run, fuse_word(alloc))?;
+    let run = with_word(run, program_word(alloc))?;
+    run.arg(rack_word(alloc))
+}
+
+/// The word that says which closing fails.
+fn fuse_word<'a>(alloc: Global) -> Result<Arg<'a>, AllocError> {
+    Arg::new(alloc, "fuse")
         .long("fuse")
         .value_name("K")
         .help("Let the K-th closing of slot 1 fail, K from 1 to 1000000")
         .value_parser(clap::value_parser!(u32).range(1..1_000_001))
-        .conflicts_with("rack")?;
-    let run = Command::new(alloc, "run")
-        .about("Answer each line of standard input on standard output")
-        .arg(fuse)?
-        .arg(rack_word(alloc))?;
-    let check = Command::new(alloc, "check")
+        .conflicts_with("rack")
+}
+
+/// The word that names a scan program's file.
+fn program_word<'a>(alloc: Global) -> Result<Arg<'a>, AllocError> {
+    Arg::new(alloc, "program")
+        .long("program")
+        .value_name("FILE")
+        .help("Begin with the listing in FILE as the scan program, on")
+        .conflicts_with("rack")
+}
+
+/// The words of `check`.
+fn check_words<'a>(alloc: Global) -> Result<Command<'a>, AllocError> {
+    Command::new(alloc, "check")
         .about("Check a listing of scan code on standard input")
         .after_help(LISTING)
-        .arg(rack_word(alloc))?;
-    Command::new(alloc, "mainframe")
-        .about("A SCPI switch mainframe, of simulated cards or of a rack's")
-        .version("1.0")
-        .subcommand_required(true)
-        .subcommand(run)?
-        .subcommand(check)?
-        .subcommand(serve_words(alloc)?)?
-        .subcommand(rack_words(alloc)?)?
-        .subcommand(off_words(alloc)?)
+        .arg(rack_word(alloc))
 }
 
 /// The word that names a rack's file.
@@ -165,32 +221,48 @@ fn off_words<'a>(alloc: Global) -> Result<Command<'a>, AllocError> {
 
 /// The words of `serve`.
 fn serve_words<'a>(alloc: Global) -> Result<Command<'a>, AllocError> {
-    let address = Arg::new(alloc, "address")
+    Command::new(alloc, "serve")
+        .about("Serve HiSLIP sessions over TCP, each connection by a thread of its own")
+        .after_help(SERVED)
+        .arg(address_word(alloc))?
+        .arg(port_word(alloc))?
+        .arg(until_word(alloc))?
+        .arg(rack_word(alloc))?
+        .arg(log_word(alloc))
+}
+
+/// The word that names an address.
+fn address_word<'a>(alloc: Global) -> Arg<'a> {
+    Arg::new(alloc, "address")
         .long("address")
         .value_name("ADDRESS")
-        .help("Listen on this IPv4 or IPv6 address [default: 127.0.0.1]");
-    let port = Arg::new(alloc, "port")
+        .help("Listen on this IPv4 or IPv6 address [default: 127.0.0.1]")
+}
+
+/// The word that names a port.
+fn port_word<'a>(alloc: Global) -> Arg<'a> {
+    Arg::new(alloc, "port")
         .long("port")
         .value_name("P")
         .help("Listen on port P, from 1 to 65535")
         .default_value("4880")
-        .value_parser(clap::value_parser!(u16).range(1..65_536));
-    let until = Arg::new(alloc, "until-end-of-input")
+        .value_parser(clap::value_parser!(u16).range(1..65_536))
+}
+
+/// The word that ends a server with standard input.
+fn until_word<'a>(alloc: Global) -> Arg<'a> {
+    Arg::new(alloc, "until-end-of-input")
         .long("until-end-of-input")
         .action(ArgAction::SetTrue)
-        .help("End with standard input, every relay open");
-    let log = Arg::new(alloc, "log")
+        .help("End with standard input, every relay open")
+}
+
+/// The word that has connections told of.
+fn log_word<'a>(alloc: Global) -> Arg<'a> {
+    Arg::new(alloc, "log")
         .long("log")
         .action(ArgAction::SetTrue)
-        .help("Tell each connection's coming and leaving on standard error");
-    Command::new(alloc, "serve")
-        .about("Serve HiSLIP sessions over TCP, each connection by a thread of its own")
-        .after_help(SERVED)
-        .arg(address)?
-        .arg(port)?
-        .arg(until)?
-        .arg(rack_word(alloc))?
-        .arg(log)
+        .help("Tell each connection's coming and leaving on standard error")
 }
 
 /// What the words that were understood ask for.
@@ -204,7 +276,7 @@ fn order_of(alloc: Global, matches: &ArgMatches) -> Result<Order, Unrun> {
         Some(("off", off)) => Ok(Order::Off(named(alloc, off, "rack")?)),
         Some((_, run)) => match file_of(alloc, run, "rack")? {
             Some(path) => Ok(Order::RunRack(path)),
-            None => Ok(Order::Run(run.get_one::<u32>("fuse"))),
+            None => run_of(alloc, run),
         },
         None => Ok(Order::Run(None)),
     }
@@ -226,6 +298,18 @@ fn named(alloc: Global, matches: &ArgMatches, word: &str) -> Result<String, Unru
     Ok(file_of(alloc, matches, word)?.unwrap_or(String::new(alloc)))
 }
 
+/// How the words of `run` ask for lines to be answered by the simulated cards.
+fn run_of(alloc: Global, matches: &ArgMatches) -> Result<Order, Unrun> {
+    let fuse = matches.get_one::<u32>("fuse");
+    let Some(path) = matches.get_str("program") else {
+        return Ok(Order::Run(fuse));
+    };
+    match String::from_str(alloc, path) {
+        Ok(path) => Ok(Order::Program(fuse, path)),
+        Err(_) => Err(Unrun::Memory),
+    }
+}
+
 /// How the words of `serve` ask for connections to be served.
 fn serving_of(serve: &ArgMatches) -> Result<Serving, Unrun> {
     Ok(Serving {
@@ -236,7 +320,7 @@ fn serving_of(serve: &ArgMatches) -> Result<Serving, Unrun> {
     })
 }
 
-/// The address that a word tells.
+/// The address that a word gives.
 fn address_of(word: Option<&str>) -> Result<Option<IpAddr>, Unrun> {
     let Some(word) = word else {
         return Ok(None);

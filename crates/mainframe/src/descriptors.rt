@@ -13,7 +13,7 @@ fn of(fd: RawFd) -> pollfd {
     }
 }
 
-/// Whether standard input, output and error are open. Where the system doesn't tell, they count as open.
+/// Whether standard input, output and error are open. Where the system doesn't say, they count as open.
 pub fn are_open() -> bool {
     let mut looks = [of(0), of(1), of(2)];
     poll(&mut looks, 0) <= 0 || looks.iter().all(|look| look.revents & POLLNVAL == 0)

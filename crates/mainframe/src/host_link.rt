@@ -1,5 +1,5 @@
-//! A link over the host's network and files, a type of its own: the prover does not come through the generic one where
-//! a whole rack's cards are handed to the server.
+//! A link over the host's network and files, a type of its own: the prover does not get through the generic one where
+//! the server takes a whole rack's cards.
 
 use std::io;
 use std::time::Duration;
@@ -12,7 +12,7 @@ pub struct HostLink {
 }
 
 impl HostLink {
-    /// One that is not open yet. An exchange takes no longer than the limit, and begins after so long a silence.
+    /// A link that is not open yet. An exchange takes at most `limit`, and begins after `silence`.
     pub fn new(rt: HostRuntime, place: Place, limit: Duration, silence: Duration) -> Self {
         HostLink {
             link: Link::new(rt, place, limit, silence),

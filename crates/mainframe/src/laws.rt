@@ -13,8 +13,8 @@ use sw_core::step_is_determined;
 use sw_rack::Rack;
 use sw_session::{core_rest_is_determined, core_talk_is_determined};
 
-/// A law: where no growth is refused, what is written is determined by the cards, by what is read, by what is measured,
-/// and by what comes of the cards: for each call of the mainframe whether a card failed in it, and if so, how often each
+/// A law: where no growth is refused, the cards, what is read, what is measured and what the cards do determine what is
+/// written. What the cards do: for each call of the mainframe whether a card failed in it, and if so, how often each
 /// card has failed after it; and whether a card that is asked says that it is sure of its relays.
 pub fn run_is_determined()
     ensures { RunIsDetermined }

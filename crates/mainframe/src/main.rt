@@ -1,11 +1,12 @@
 //! `mainframe`: a SCPI switch mainframe of simulated cards, driven by lines of text or over a network.
 //!
-//! `mainframe run [--fuse K]` answers each line of standard input on standard output. The crate's contract is that of
-//! `run::run_lines`: what is written is what the definition of a talk says of what was read, by the step relation of
-//! the core from its opening state. `mainframe check` says of a listing whether the program's cards may do its scan;
-//! its contract is that of `listing::check_listing`. `mainframe serve` serves sessions over TCP at the address and the
-//! port that `Serving::bound_at` tells; its contract is that of `serving::serve_on`: how many connections it takes; and
-//! of `sw_serve::serve_cards`: which cards come out of their slots at the end, each of them open.
+//! `mainframe run [--fuse K] [--program FILE]` answers each line of standard input on standard output. The crate's
+//! contract is that of `run::run_lines`, with FILE of `run::run_program_lines`: what is written is what the definition
+//! of a talk says of what was read, by the step relation of the core from its opening state. `mainframe check` says of
+//! a listing whether the program's cards may do its scan; its contract is that of `listing::check_listing`.
+//! `mainframe serve` serves sessions over TCP at the address and the port that `Serving::bound_at` gives; its contract
+//! is that of `serving::serve_on`: how many connections it takes; and of `sw_serve::serve_cards`: which cards come out
+//! of their slots at the end, each of them open.
 //!
 //! Nothing is promised of what a terminal or a network carries, nor of the texts of `clap`.
 #![tactic(auto)]
@@ -14,12 +15,11 @@ mod cards;
 mod command_line;
 mod descriptors;
 mod error_log;
-mod explanation;
 mod fault;
 mod host_link;
 mod laws;
 mod listing;
-mod misread;
+mod loading;
 mod rack_cards;
 mod rack_fault;
 mod rack_lines;
@@ -39,12 +39,12 @@ use descriptors::are_open;
 use error_log::ErrorLog;
 use fault::RunFault;
 use listing::{check_listing, program_layout};
+use loading::{LoadFault, program_of};
 use rack_cards::rack_layout;
-use racks::{HostCards, cards_in, ended, rack_in, switch_off, tell_rack};
-use run::{run_lines, run_over};
+use racks::{cards_in, ended, rack_in, switch_off, tell_rack};
+use run::{run_lines, run_over, run_program_lines};
 use serving::{serve_by, serve_on};
 use std::alloc::{AllocError, Global};
-use std::io;
 use std::io::{BufReader, Input, Read};
 use std::net::{Net, SocketAddr, TcpListener, TcpStream};
 use std::os::fd::AsRawFd;
@@ -52,9 +52,12 @@ use std::process::ExitCode;
 use std::sync::Wait;
 use std::thread::Threads;
 use std::time::Clock;
+use std::{fs, io};
 use sw_card::{Meter, Relay};
+use sw_lex::BoxedProgram;
 use sw_serve::{Door, SlotCard};
 use sw_verify::Layout;
+use whole::read_whole;
 
 fn main(rt: HostRuntime) -> ExitCode {
     let Ok(words) = std::env::args(&rt) else {
@@ -66,27 +69,15 @@ fn main(rt: HostRuntime) -> ExitCode {
     };
     match parse_words(rt.alloc(), words.as_slice()) {
         Ok(Order::Run(fuse)) => answer_input(&rt, fuse),
+        Ok(Order::Program(fuse, path)) => answer_with_program(&rt, fuse, &path),
         Ok(Order::RunRack(path)) => run_rack(&rt, path.as_str()),
         Ok(Order::Check(None)) => check_input(&rt, program_layout(rt.alloc())),
-        Ok(Order::Check(Some(path))) => match rack_in(&rt, rt.alloc(), path.as_str()) {
-            Ok(rack) => check_input(&rt, rack_layout(rt.alloc(), &rack)),
-            Err(status) => status,
-        },
-        Ok(Order::Serve(serving, None)) => {
-            let cards: Option<HostCards> = None;
-            serve_at(rt, rt.alloc(), serving, input_of(&rt, serving), cards)
-        }
-        Ok(Order::Serve(serving, Some(path))) => match cards_in(&rt, path.as_str()) {
-            Ok((cards, interlock)) => {
-                let input = input_of(&rt, serving);
-                let status = serve_at(rt, rt.alloc(), serving, input, Some(cards));
-                ended(&rt, &interlock, status)
-            }
-            Err(status) => status,
-        },
+        Ok(Order::Check(Some(path))) => check_by_rack(&rt, path.as_str()),
+        Ok(Order::Serve(serving, None)) => serve_simulated(rt, &rt, serving),
+        Ok(Order::Serve(serving, Some(path))) => serve_rack(rt, &rt, serving, path.as_str()),
         Ok(Order::Rack(path)) => tell_rack(&rt, path.as_str()),
         Ok(Order::Off(path)) => switch_off(&rt, path.as_str()),
-        Err(error) => unrun(&rt, &error),
+        Err(why) => unrun(&rt, &why),
     }
 }
 
@@ -96,10 +87,41 @@ fn answer_input(rt: &HostRuntime, fuse: Option<u32>) -> ExitCode {
         return stopped(rt, RunFault::Memory);
     };
     let mut writer = io::writer(rt);
-    match run_lines(rt.alloc(), &mut reader, &mut writer, fuse) {
-        Ok(()) => ExitCode::SUCCESS,
-        Err(fault) => stopped(rt, fault),
-    }
+    done(rt, run_lines(rt.alloc(), &mut reader, &mut writer, fuse))
+}
+
+/// Answers standard input on standard output, with the scan program that a file lists. Where it lists none, standard
+/// error says why, and the status is 3.
+fn answer_with_program(rt: &HostRuntime, fuse: Option<u32>, path: &str) -> ExitCode {
+    let program = match program_in(rt, path) {
+        Ok(program) => program,
+        Err(LoadFault::File) => {
+            let _ = eprintln!(rt; "mainframe: cannot open the program's file");
+            return ExitCode::FAILURE;
+        }
+        Err(LoadFault::Run(fault)) => return stopped(rt, fault),
+        Err(LoadFault::Listing(why)) => {
+            let _ = eprintln!(rt; "{why}");
+            return ExitCode::from(3);
+        }
+    };
+    let Ok(mut reader) = BufReader::new(rt.alloc(), rt.reader()) else {
+        return stopped(rt, RunFault::Memory);
+    };
+    let mut writer = io::writer(rt);
+    done(
+        rt,
+        run_program_lines(rt.alloc(), &mut reader, &mut writer, fuse, program),
+    )
+}
+
+/// The scan program that a file lists.
+fn program_in(rt: &HostRuntime, path: &str) -> Result<BoxedProgram, LoadFault> {
+    let Ok(mut file) = fs::open(rt, path) else {
+        return Err(LoadFault::File);
+    };
+    let text = read_whole(rt.alloc(), &mut file)?;
+    program_of(rt.alloc(), &text)
 }
 
 /// Answers standard input on standard output, by the cards of this file's rack.
@@ -112,19 +134,15 @@ fn run_rack(rt: &HostRuntime, path: &str) -> ExitCode {
         return stopped(rt, RunFault::Memory);
     };
     let mut writer = io::writer(rt);
-    let status = match run_over(rt.alloc(), &mut reader, &mut writer, cards) {
-        Ok(()) => ExitCode::SUCCESS,
-        Err(fault) => stopped(rt, fault),
-    };
+    let status = done(rt, run_over(rt.alloc(), &mut reader, &mut writer, cards));
     ended(rt, &interlock, status)
 }
 
-/// Standard input, where it is served until that ends.
-fn input_of<W: Input>(rt: &W, serving: Serving) -> Option<W::Reader> {
-    if serving.until_end_of_input {
-        Some(rt.reader())
-    } else {
-        None
+/// Checks standard input against the cards of this file's rack.
+fn check_by_rack(rt: &HostRuntime, path: &str) -> ExitCode {
+    match rack_in(rt, rt.alloc(), path) {
+        Ok(rack) => check_input(rt, rack_layout(rt.alloc(), &rack)),
+        Err(status) => status,
     }
 }
 
@@ -144,9 +162,53 @@ fn check_input(rt: &HostRuntime, layout: Result<Layout, AllocError>) -> ExitCode
     ExitCode::from(checked.status())
 }
 
-/// Serves connections at an address and a port, by these cards or by simulated ones, and says when it listens, or why it
-/// can't. With `input` it serves until that ends.
-fn serve_at<
+/// Serves connections by the simulated cards.
+fn serve_simulated<
+    W: Threads
+        + Wait
+        + Clock
+        + Eprint
+        + Net<Listener = TcpListener, Stream = TcpStream>
+        + Copy
+        + Drop
+        + Send
+        + Sync
+        + 'static,
+>(rt: W, host: &HostRuntime, serving: Serving) -> ExitCode {
+    let alloc = host.alloc();
+    let listener = match listen(&rt, serving) {
+        Ok(listener) => listener,
+        Err(status) => return status,
+    };
+    let log = log_of(rt, alloc, serving);
+    let mut door = Door::new(rt, alloc, &listener, input_of(host, serving), log);
+    done(&rt, serve_on(rt, alloc, &mut door, u32::MAX, log))
+}
+
+/// Serves connections by the cards of this file's rack.
+fn serve_rack<
+    W: Threads
+        + Wait
+        + Clock
+        + Eprint
+        + Net<Listener = TcpListener, Stream = TcpStream>
+        + Copy
+        + Drop
+        + Send
+        + Sync
+        + 'static,
+>(rt: W, host: &HostRuntime, serving: Serving, path: &str) -> ExitCode {
+    match cards_in(host, path) {
+        Ok((cards, interlock)) => {
+            let status = serve_over(rt, host.alloc(), serving, input_of(host, serving), cards);
+            ended(&rt, &interlock, status)
+        }
+        Err(status) => status,
+    }
+}
+
+/// Serves connections by these cards.
+fn serve_over<
     W: Threads
         + Wait
         + Clock
@@ -165,30 +227,50 @@ fn serve_at<
     alloc: Global,
     serving: Serving,
     input: Option<I>,
-    cards: Option<Vec<SlotCard<R, M>>>,
+    cards: Vec<SlotCard<R, M>>,
 ) -> ExitCode {
-    if !are_open() {
-        return stopped(&rt, RunFault::Descriptors);
-    }
-    let at = serving.bound_at();
-    let listener = match TcpListener::bind(&rt, at) {
+    let listener = match listen(&rt, serving) {
         Ok(listener) => listener,
-        Err(error) => return unbound(&rt, at, &error),
+        Err(status) => return status,
     };
-    let _ = eprintln!(rt; "mainframe: listening on {at}");
-    let log = ErrorLog {
+    let log = log_of(rt, alloc, serving);
+    let mut door = Door::new(rt, alloc, &listener, input, log);
+    done(&rt, serve_by(rt, alloc, &mut door, u32::MAX, cards, log))
+}
+
+/// Standard input, where it is served until that ends.
+fn input_of<W: Input>(rt: &W, serving: Serving) -> Option<W::Reader> {
+    if serving.until_end_of_input {
+        Some(rt.reader())
+    } else {
+        None
+    }
+}
+
+/// Where connections are told of.
+fn log_of<W: Eprint + Copy + Drop>(rt: W, alloc: Global, serving: Serving) -> ErrorLog<W> {
+    ErrorLog {
         rt,
         alloc,
         is_on: serving.is_logged,
-    };
-    let mut door = Door::new(rt, alloc, &listener, input, log);
-    let served = match cards {
-        Some(cards) => serve_by(rt, alloc, &mut door, u32::MAX, cards, log),
-        None => serve_on(rt, alloc, &mut door, u32::MAX, log),
-    };
-    match served {
-        Ok(()) => ExitCode::SUCCESS,
-        Err(fault) => stopped(&rt, fault),
+    }
+}
+
+/// Listens at an address and a port, and says so; or the status to end with, the cause being told.
+fn listen<W: Eprint + Net<Listener = TcpListener, Stream = TcpStream>>(
+    rt: &W,
+    serving: Serving,
+) -> Result<TcpListener, ExitCode> {
+    if !are_open() {
+        return Err(stopped(rt, RunFault::Descriptors));
+    }
+    let at = serving.bound_at();
+    match TcpListener::bind(rt, at) {
+        Ok(listener) => {
+            let _ = eprintln!(rt; "mainframe: listening on {at}");
+            Ok(listener)
+        }
+        Err(error) => Err(unbound(rt, at, &error)),
     }
 }
 
@@ -197,6 +279,14 @@ fn unbound(rt: &impl Eprint, at: SocketAddr, error: &io::Error) -> ExitCode {
     let status = stopped(rt, RunFault::Listen);
     let _ = eprintln!(rt; "mainframe: {at}: {error}");
     status
+}
+
+/// The status at the end.
+fn done(rt: &impl Eprint, ran: Result<(), RunFault>) -> ExitCode {
+    match ran {
+        Ok(()) => ExitCode::SUCCESS,
+        Err(fault) => stopped(rt, fault),
+    }
 }
 
 /// One line on standard error, and the fault's status.
@@ -215,6 +305,7 @@ fn unrun(rt: &HostRuntime, why: &Unrun) -> ExitCode {
         Unrun::Words(error) => {
             let _ = error.print(rt);
         }
+        Unrun::Memory => {}
         Unrun::Address => {
             let _ = eprintln!(rt;
                 "error: --address <ADDRESS> takes an IPv4 or IPv6 address\n\nFor more information, try '--help'."

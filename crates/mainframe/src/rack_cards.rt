@@ -124,19 +124,37 @@ fn card_of<T: Told + Copy + Drop>(
         CardKind::Relays(groups, relays) => {
             let Groups { numbers } = groups;
             let fuse = fuse_of(&relays);
-            let place = String::from_str(alloc, place_of_relays(&relays))?;
-            let board = board_of(rt, alloc, slot, numbers.len() as u8, relays)?;
-            match Kept::new(board, slot, interlock.try_clone()?, told) {
-                Ok(kept) => Ok(SlotCard::relays(
-                    slot,
-                    Banks::new(serial, numbers, Fuse::new(kept, fuse)),
-                )),
-                Err(fault) => Err(RackCardFault::Driver(slot, place, fault)),
-            }
+            let kept = kept_of(rt, slot, numbers.len() as u8, relays, interlock, told)?;
+            Ok(SlotCard::relays(slot, Banks::new(serial, numbers, Fuse::new(kept, fuse))))
         }
         CardKind::Meter(meter) => {
             let source = source_of(rt, alloc, slot, meter, told)?;
             Ok(SlotCard::meter(slot, Volt::new(serial, source)))
+        }
+    }
+}
+
+/// The board behind a card's channels, reached, with every relay off.
+fn kept_of<T: Told + Copy + Drop>(
+    rt: HostRuntime,
+    slot: u8,
+    channels: u8,
+    relays: Relays,
+    interlock: &Interlock,
+    told: T,
+) -> Result<Kept<AnyBoard<HostLink>, T>, RackCardFault>
+    requires few { channels ≤ most_channels }
+    requires coils { HasCoils channels relays }
+{
+    let (board, place) = placed_board(rt, slot, channels, relays)?;
+    match interlock.try_clone() {
+        Ok(interlock) => match Kept::new(board, slot, interlock, told) {
+            Ok(kept) => Ok(kept),
+            Err(fault) => Err(RackCardFault::Driver(slot, place, fault)),
+        },
+        Err(_) => {
+            drop(board);
+            Err(RackCardFault::Memory)
         }
     }
 }
@@ -185,8 +203,28 @@ fn first_address(rt: HostRuntime, address: &str) -> io::Result<SocketAddr> {
         .ok_or(io::Error::from(ErrorKind::AddrNotAvailable))
 }
 
+/// The board behind a card's channels, which isn't reached yet, and where it is, in the file's words.
+pub fn placed_board(
+    rt: HostRuntime,
+    slot: u8,
+    channels: u8,
+    relays: Relays,
+) -> Result<(AnyBoard<HostLink>, String), RackCardFault>
+    requires few { channels ≤ most_channels }
+    requires coils { HasCoils channels relays }
+    ensures { IfOk result (λ placed. IsBoardOf channels relays placed.0) }
+{
+    match String::from_str(rt.alloc(), place_of_relays(&relays)) {
+        Ok(place) => Ok((board_of(rt, rt.alloc(), slot, channels, relays)?, place)),
+        Err(_) => {
+            drop(relays);
+            Err(RackCardFault::Memory)
+        }
+    }
+}
+
 /// The board behind a card's channels; it isn't reached yet.
-pub fn board_of(
+fn board_of(
     rt: HostRuntime,
     alloc: Global,
     slot: u8,
@@ -304,9 +342,9 @@ pub fn source_of<T: Told + Drop>(
                 query,
             } = words;
             let at = String::from_str(alloc, words_of(&place))?;
-            let link = link_of(rt, slot, place, limit_ms, 0)?;
             let setup = ended(alloc, setup.as_slice(), b"\n")?;
             let query = with_end(alloc, query.as_str(), b"\n")?;
+            let link = link_of(rt, slot, place, limit_ms, 0)?;
             match ScpiMeter::new(link, slot, setup, query, told) {
                 Ok(meter) => Ok(AnySource::Scpi(meter)),
                 Err(fault) => Err(RackCardFault::Driver(slot, at, fault)),
@@ -326,7 +364,7 @@ pub fn rack_layout(alloc: Global, rack: &Rack) -> Result<Layout, AllocError>
     Ok(Layout::new(slots))
 }
 
-/// What stands in a slot.
+/// What is in a slot.
 fn slot_of(alloc: Global, rack: &Rack, slot: u8) -> Result<Slot, AllocError>
     ensures { IfOk result (λ found. found ≡ slot_contents (offered_to slot (rack_cards rack.now.cards.items))) }
 {

@@ -1,16 +1,16 @@
-//! Why a card of a rack isn't to be had.
+//! Why a card of a rack is not available.
 
 use std::alloc::{AllocError, AllocFailed};
 use std::fmt::{Display, Formatter, Write};
 use std::{fmt, io};
 use sw_drivers::DriverFault;
 
-/// Why a card of a rack isn't to be had.
+/// Why a card of a rack is not available.
 #[derive(Drop)]
 pub enum RackCardFault {
-    /// What stands behind this slot's card, at this place, isn't reached, or hasn't confirmed that its relays are off.
+    /// What is behind this slot's card, at this place, isn't reached, or hasn't confirmed that its relays are off.
     Driver(u8, String, DriverFault),
-    /// This address of what stands behind this slot's card is none.
+    /// This address of what is behind this slot's card is none.
     Address(u8, String, io::Error),
     Memory,
 }

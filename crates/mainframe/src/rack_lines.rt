@@ -10,8 +10,8 @@ use std::alloc::{AllocError, Global};
 use sw_drivers::{Command, Commands};
 use sw_rack::{Lines, State, rendered};
 
-/// The commands of a board with so many channels. Each line that is sent ends by `end`, and each answer to a query of a
-/// channel's state by `ending`.
+/// The commands of a board with `channels` channels. Each line that is sent ends by `end`, and each answer to a query
+/// of a channel's state by `ending`.
 pub fn commands_of(
     alloc: Global,
     words: &Lines,
@@ -34,7 +34,7 @@ pub fn commands_of(
     })
 }
 
-/// What asks for the state of each channel, and wants it on or off; nothing where the board tells none.
+/// What asks for the state of each channel, and wants it on or off. Nothing where the board reports no state.
 fn asking(
     alloc: Global,
     state: &Option<State>,

@@ -36,7 +36,7 @@ fn driver_of(relays: &Relays) -> &'static str {
     }
 }
 
-/// Where the board of these relays is; nothing of those that are simulated.
+/// Where the board of these relays is. Empty for simulated relays.
 pub fn place_of_relays(relays: &Relays) -> &str {
     match relays {
         Relays::Simulated(_) => "",

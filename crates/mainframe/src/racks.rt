@@ -1,8 +1,12 @@
 //! A rack's file on the command line: its cards in place of the simulated ones.
 
-use crate::rack_cards::{RackMeter, RackRelays, board_of, cards_of, source_of};
+ghost use Rattle.std.specs.Prelude.{◌≤◌};
+ghost use Rattle.sw_base.specs.Limits.{most_channels};
+ghost use Rattle.sw_rack.specs.Coils.{HasCoils};
+
+use crate::rack_cards::{RackMeter, RackRelays, cards_of, placed_board, source_of};
 use crate::rack_fault::RackCardFault;
-use crate::rack_text::{confirms_nothing, describe, place_of_relays};
+use crate::rack_text::{confirms_nothing, describe};
 use std::alloc::{AllocError, Global};
 use std::fs::File;
 use std::io;
@@ -10,10 +14,10 @@ use std::process::ExitCode;
 use std::rt::Files;
 use sw_base::SLOTS;
 use sw_drivers::{Board, DriverFault, Interlock, Told};
-use sw_rack::{CardKind, Groups, Rack, RackCard, RackError, read_rack};
+use sw_rack::{CardKind, Groups, Meter, Rack, RackCard, RackError, Relays, read_rack};
 use sw_serve::SlotCard;
 
-/// Standard error, where a driver tells why a call of it has failed.
+/// Standard error, where a driver prints why a call of it has failed.
 #[derive(Clone, Copy, Drop)]
 pub struct ErrorTold {
     rt: HostRuntime,
@@ -36,7 +40,7 @@ fn text_in<W: Files>(rt: &W, alloc: Global, path: &str) -> io::Result<String> {
     io::read_to_string(alloc, File::open(rt, path)?)
 }
 
-/// The rack that this file describes; or the status to end with, the cause being told.
+/// The rack that this file describes. Or it prints the cause, and gives the status to end with.
 pub fn rack_in<W: Files + Eprint>(rt: &W, alloc: Global, path: &str) -> Result<Rack, ExitCode> {
     let text = match text_in(rt, alloc, path) {
         Ok(text) => text,
@@ -55,8 +59,8 @@ pub fn rack_in<W: Files + Eprint>(rt: &W, alloc: Global, path: &str) -> Result<R
     }
 }
 
-/// The cards of the rack that this file describes, each reached, with every relay off; or the status to end with, the
-/// cause being told.
+/// The cards of the rack that this file describes, each reached, with every relay off. Or it prints the cause, and
+/// gives the status to end with.
 pub fn cards_in(rt: &HostRuntime, path: &str) -> Result<(HostCards, Interlock), ExitCode> {
     let alloc = rt.alloc();
     let rack = rack_in(rt, alloc, path)?;
@@ -78,7 +82,8 @@ pub fn cards_in(rt: &HostRuntime, path: &str) -> Result<(HostCards, Interlock), 
     }
 }
 
-/// The status at the end: where a slot's relays may be closed still, each is told, and it is 1.
+/// The status at the end. It prints each slot with relays that may still be closed; where there is one, the status is
+/// 1.
 pub fn ended(rt: &impl Eprint, interlock: &Interlock, status: ExitCode) -> ExitCode {
     if !interlock.is_held() {
         return status;
@@ -111,7 +116,7 @@ enum Doing {
     SwitchingOff,
 }
 
-/// Does this with each card, whatever came of those before. What came of it is told; the status is 1 where one failed.
+/// Does this with each card, even where one before it failed, and prints the outcome. The status is 1 where one failed.
 fn with_each_card(rt: &HostRuntime, path: &str, doing: Doing) -> ExitCode {
     let rack = match rack_in(rt, rt.alloc(), path) {
         Ok(rack) => rack,
@@ -126,14 +131,10 @@ fn with_each_card(rt: &HostRuntime, path: &str, doing: Doing) -> ExitCode {
     status
 }
 
-/// Does this with a card, and tells what came of it.
+/// Does this with a card, and prints the outcome.
 fn is_done(rt: &HostRuntime, card: RackCard, doing: Doing) -> bool {
     let told = describe(rt.alloc(), &card);
-    let done = match doing {
-        Doing::Reaching => reach(rt, card),
-        Doing::SwitchingOff => clear(rt, card),
-    };
-    match (done, told) {
+    match (do_with(rt, card, doing), told) {
         (Ok(Some(word)), Ok(told)) => {
             let _ = println!(rt; "{told}: {word}");
             true
@@ -155,41 +156,66 @@ fn out_of_memory(rt: &impl Eprint) -> ExitCode {
     ExitCode::from(1)
 }
 
-/// Reaches what stands behind a card.
-fn reach(rt: &HostRuntime, card: RackCard) -> Result<Option<&'static str>, RackCardFault> {
-    let alloc = rt.alloc();
+/// Does this with what is behind a card; gives what it did, or nothing for a meter, which has no relay.
+fn do_with(
+    rt: &HostRuntime,
+    card: RackCard,
+    doing: Doing,
+) -> Result<Option<&'static str>, RackCardFault> {
     let RackCard { slot, kind, .. } = card;
     match kind {
         CardKind::Relays(groups, relays) => {
             let Groups { numbers } = groups;
-            let place = String::from_str(alloc, place_of_relays(&relays))?;
-            let mut board = board_of(*rt, alloc, slot, numbers.len() as u8, relays)?;
-            match board.reach() {
-                Ok(()) => Ok(Some("reached")),
-                Err(fault) => Err(RackCardFault::Driver(slot, place, fault)),
-            }
+            let word = do_with_relays(rt, slot, numbers.len() as u8, relays, doing)?;
+            Ok(Some(word))
         }
-        CardKind::Meter(meter) => {
+        CardKind::Meter(meter) => do_with_meter(rt, slot, meter, doing),
+    }
+}
+
+/// Does this with what gives a meter's readings.
+fn do_with_meter(
+    rt: &HostRuntime,
+    slot: u8,
+    meter: Meter,
+    doing: Doing,
+) -> Result<Option<&'static str>, RackCardFault> {
+    let alloc = rt.alloc();
+    match doing {
+        Doing::Reaching => {
             drop(source_of(*rt, alloc, slot, meter, ErrorTold { rt: *rt, alloc })?);
             Ok(Some("reached"))
+        }
+        Doing::SwitchingOff => {
+            drop(meter);
+            Ok(None)
         }
     }
 }
 
-/// Switches off the relays of a card.
-fn clear(rt: &HostRuntime, card: RackCard) -> Result<Option<&'static str>, RackCardFault> {
-    let alloc = rt.alloc();
-    let RackCard { slot, kind, .. } = card;
-    match kind {
-        CardKind::Relays(groups, relays) => {
-            let Groups { numbers } = groups;
-            let place = String::from_str(alloc, place_of_relays(&relays))?;
-            let mut board = board_of(*rt, alloc, slot, numbers.len() as u8, relays)?;
-            match board.clear() {
-                Ok(()) => Ok(Some("every relay is off")),
-                Err(fault) => Err(RackCardFault::Driver(slot, place, fault)),
-            }
-        }
-        CardKind::Meter(_) => Ok(None),
+/// Does this with the board behind a card's channels.
+fn do_with_relays(
+    rt: &HostRuntime,
+    slot: u8,
+    channels: u8,
+    relays: Relays,
+    doing: Doing,
+) -> Result<&'static str, RackCardFault>
+    requires few { channels ≤ most_channels }
+    requires coils { HasCoils channels relays }
+{
+    let (board, place) = placed_board(*rt, slot, channels, relays)?;
+    match do_with_board(board, doing) {
+        Ok(word) => Ok(word),
+        Err(fault) => Err(RackCardFault::Driver(slot, place, fault)),
+    }
+}
+
+/// Does this with a board.
+fn do_with_board<B: Board + Drop>(board: B, doing: Doing) -> Result<&'static str, DriverFault> {
+    let mut board = board;
+    match doing {
+        Doing::Reaching => board.reach().map(|()| "reached"),
+        Doing::SwitchingOff => board.clear().map(|()| "every relay is off"),
     }
 }

@@ -1,4 +1,4 @@
-//! Reading one line, of which no more is kept than a message may have.
+//! Reads one line, and keeps no more of it than a message may have.
 
 ghost use Rattle.std.specs.Prelude.{◌≡◌, ◌≢◌, ◌<◌, ◌≤◌, ◌-◌, All, length, take, OnOk, OnErr, IfErr, IfSome};
 ghost use Rattle.std.specs.Io.BufRead.{take_through, DropsThrough};
@@ -31,11 +31,12 @@ pub trait LineSource<W> {
     /// It was not asked for bytes, and went from one state to another.
     ghost unasked: { Self → Self → Type 0 };
 
-    /// So many bytes are shown, and can be taken.
+    /// This many bytes are shown, and can be taken.
     ghost shows: { Self → ℕ → Type 0 };
 
     /// Asks for bytes, takes those that come, up to and including the first line feed, and keeps those that the line
-    /// has room for. Returns whether the line is complete, and tells how many bytes are at hand behind it.
+    /// has room for. Returns whether the line is complete, and leaves in `at_hand` how many bytes are at hand behind
+    /// it.
     fn read_part(
         &mut self,
         written: &W,
@@ -48,8 +49,8 @@ pub trait LineSource<W> {
         ensures fault { IfErr result IsOfReading }
         ensures failed { result ≡ Err RunFault.Input → failed self.old self.new };
 
-    /// Looks at no more than so many bytes that are at hand, and keeps the first line of them, or its first
-    /// `KEPT_BYTES` bytes. Returns the line's length, or 0 where no whole line is there, or no memory for it.
+    /// Looks at no more than `at_hand` bytes, and keeps the first line of them, or its first `KEPT_BYTES` bytes.
+    /// Returns the line's length, or 0 where no whole line is there, or no memory for it.
     fn look(&mut self, at_hand: usize, line: &mut Vec<u8>) -> usize
         ensures unasked { unasked self.old self.new }
         ensures keeps { Keeps (remaining self.old) (remaining self.new) }
@@ -57,13 +58,13 @@ pub trait LineSource<W> {
         ensures shown { IfSome (remaining self.old) (λ _. shows self.new result) }
         ensures bound { result ≤ at_hand };
 
-    /// Takes so many bytes that were shown.
+    /// Takes `length` bytes that were shown.
     fn take(&mut self, length: usize)
         ensures unasked { unasked self.old self.new }
         ensures taken { shows self.old length → LosesFront (remaining self.old) (remaining self.new) length };
 }
 
-/// Any reader is a source of lines. It tells nothing of what it sees.
+/// Any reader is a source of lines. It says nothing of what it sees.
 impl<Rd: BufRead, W> LineSource<W> for Rd {
     ghost remaining = { λ r. Rd.remaining r };
 

@@ -1,4 +1,4 @@
-//! Serving whoever comes to a port, by the program's cards.
+//! Serves the connections that come to a port, by the program's cards.
 
 ghost use Rattle.std.specs.Prelude.{◌≡◌, ◌+◌, ◌<◌, ◌^◌, IfErr, OnOk};
 ghost use Rattle.sw_serve.specs.Arrivals.{TakesUpTo};
@@ -12,8 +12,8 @@ use std::time::Clock;
 use sw_card::{Meter, Relay};
 use sw_serve::{Log, Port, SlotCard, serve_cards, tell_failures};
 
-/// Takes so many connections, or fewer where the port ends, each served by a thread of its own over the program's
-/// cards, and then closes down. A call of a card that fails is told to the log.
+/// Takes `limit` connections, or fewer where the port ends, each served by a thread of its own over the program's
+/// cards, and then closes down. The log gets each failed call of a card.
 pub fn serve_on<
     W: Threads + Wait + Clock + Copy + Drop + Send + Sync + 'static,
     P: Port,

@@ -13,7 +13,7 @@ use sw_session::write_all;
 const MOST_UNWRITTEN: usize = 65_536;
 
 /// Keeps an answer behind those that are not written yet. Where they would be more than `MOST_UNWRITTEN` bytes, or
-/// there is no memory for that, all of them are written and handed on.
+/// there is no memory for that, it writes and flushes all of them.
 pub fn gather<W: Write>(
     writer: &mut W,
     unwritten: &mut Vec<u8>,
@@ -49,7 +49,7 @@ fn keep_answer(unwritten: &mut Vec<u8>, told: &[u8]) -> bool
     unwritten.extend_from_slice(told).is_ok()
 }
 
-/// Writes all answers that are not written yet and hands them on, or a front part of them where that fails.
+/// Writes and flushes all answers that are not written yet, or writes a front part of them where that fails.
 pub fn write_out<W: Write>(writer: &mut W, unwritten: &mut Vec<u8>) -> Result<(), RunFault>
     ensures ok { OnOk result (Appends (W.contents writer.old) (W.contents writer.new) unwritten.old.items) }
     ensures none { OnOk result (unwritten.new.items ≡ []) }
@@ -61,7 +61,7 @@ pub fn write_out<W: Write>(writer: &mut W, unwritten: &mut Vec<u8>) -> Result<()
     Ok(())
 }
 
-/// Writes all of the bytes and hands them on, or a front part of them where that fails.
+/// Writes all of the bytes and flushes, or writes a front part of them where that fails.
 pub fn write_bytes<W: Write>(writer: &mut W, bytes: &[u8]) -> Result<(), RunFault>
     ensures ok { OnOk result (Appends (W.contents writer.old) (W.contents writer.new) bytes.now) }
     ensures err { OnErr result (WritesPart (W.contents writer.old) (W.contents writer.new) bytes.now) }

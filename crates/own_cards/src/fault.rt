@@ -10,7 +10,7 @@ use sw_serve::FitError;
 pub enum Fault {
     /// The mainframe refuses a card, or there was no memory for it.
     Cards(FitError),
-    /// The words of the command line are not known, or a file, the port or memory is not to be had.
+    /// The words of the command line are not known, a file or the port is not available, or there is no memory.
     Io(io::Error),
 }
 

@@ -1,4 +1,4 @@
-//! A meter that tells its readings by lines of text.
+//! A meter that gives its readings by lines of text.
 
 use std::alloc::Global;
 use std::io::BufRead;
@@ -30,7 +30,7 @@ impl<R: BufRead + Drop> Source for LineSource<R> {
     }
 }
 
-/// The reading that a line tells.
+/// The reading in a line.
 fn reading_of(text: &str) -> Result<Reading, CardFault> {
     if text == "over" {
         return Ok(Reading::Overload);

@@ -34,7 +34,7 @@ pub fn answer<R: Relay, M: Meter, I: BufRead, O: Write>(
     Ok(())
 }
 
-/// Serves whoever comes to this port of this machine, until the input ends; every relay is open then.
+/// Serves the connections that come to this port of this machine, until the input ends; every relay is open then.
 pub fn serve<
     W: Net<Listener = TcpListener, Stream = TcpStream>
         + Threads

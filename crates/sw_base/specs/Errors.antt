@@ -15,6 +15,7 @@ use Rattle.sw_base.specs.declared.error.ScpiError.TheVariants.{HardwareError, Ha
 use Rattle.sw_base.specs.declared.error.ScpiError.TheVariants.{MacroParameterError, MacroDefinitionTooLong}
 use Rattle.sw_base.specs.declared.error.ScpiError.TheVariants.{MacroRecursionError, MacroRedefinitionNotAllowed}
 use Rattle.sw_base.specs.declared.error.ScpiError.TheVariants.{MacroHeaderNotFound, SystemError, QueueOverflow}
+use Rattle.sw_base.specs.declared.error.ScpiError.TheVariants.{ProgramSyntaxError}
 use Rattle.sw_base.specs.declared.error.ScpiError.TheVariants.{InputBufferOverrun, QueryInterrupted}
 
 -- the number without its sign
@@ -54,6 +55,7 @@ number_of MacroDefinitionTooLong = 275
 number_of MacroRecursionError = 276
 number_of MacroRedefinitionNotAllowed = 277
 number_of MacroHeaderNotFound = 278
+number_of ProgramSyntaxError = 285
 number_of SystemError = 310
 number_of QueueOverflow = 350
 number_of InputBufferOverrun = 363
@@ -95,6 +97,7 @@ text_of MacroDefinitionTooLong = codes "Macro definition too long"
 text_of MacroRecursionError = codes "Macro recursion error"
 text_of MacroRedefinitionNotAllowed = codes "Macro redefinition not allowed"
 text_of MacroHeaderNotFound = codes "Macro header not found"
+text_of ProgramSyntaxError = codes "Program syntax error"
 text_of SystemError = codes "System error"
 text_of QueueOverflow = codes "Queue overflow"
 text_of InputBufferOverrun = codes "Input buffer overrun"

@@ -54,7 +54,7 @@ contents_are_meter (Some (relays groups)) = false
 abbrev pub has_meter : Layout → ℕ → Bool
 has_meter layout slot = contents_are_meter (slot_at layout slot)
 
--- two different channels of one nonzero group, in whatever slots they are; an absent channel has group 0
+-- two different channels of one nonzero group, in any slots; an absent channel has group 0
 pub record IsClash (layout : Layout) (a b : Channel) : Type 0 where
   pub other : a ≢ b
   pub grouped : group_of layout a ≢ 0

@@ -21,12 +21,12 @@ most_entries = 512
 abbrev pub most_bytes : ℕ
 most_bytes = 65536
 
--- bytes that are kept of a program message that comes in parts: the longest one, its line feed, and one byte, by which
--- a longer one is known
+-- the most bytes that a session keeps of a program message that comes in parts: the longest one, its line feed, and one
+-- byte, which shows a longer one
 abbrev pub most_kept : ℕ
 most_kept = most_bytes + 2
 
--- bytes of the answers to one program message, with what stands between them and the line feed
+-- bytes of the answers to one program message, with their separators and the line feed
 abbrev pub most_answer_bytes : ℕ
 most_answer_bytes = 16777216
 

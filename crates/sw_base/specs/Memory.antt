@@ -1,4 +1,4 @@
--- Want of memory as a second outcome of what would else be determined.
+-- Lack of memory as a second outcome of a function with else one outcome.
 use Rattle.std.specs.Prelude.{◌≡◌, Result, Ok, Err, ◌⊎◌}
 use Rattle.sw_base.specs.declared.error.ScpiError.{ScpiError}
 use Rattle.sw_base.specs.declared.error.ScpiError.TheVariants.{OutOfMemory}

@@ -9,7 +9,7 @@ use Rattle.sw_base.specs.declared.error.ScpiError.TheVariants.{TooManyDigits, Da
 use Rattle.sw_base.specs.declared.number.Unit.{Unit as TimeUnit}
 use Rattle.sw_base.specs.declared.number.Unit.TheVariants.{S, Ms, Us}
 
--- A number as it is written: whether a minus stands first, the digits before the point, those after it, the exponent.
+-- A number as a text writes it: whether a minus is first, the digits before the point, those after it, the exponent.
 pub record Written : Type 0 where
   pub negative : Bool
   pub whole : List ℕ
@@ -27,12 +27,12 @@ value_of digits = value_after 0 digits
 abbrev pub with_sign : Bool → ℕ → ℤ
 with_sign negative n = if negative then neg_ℤ (pos n) else pos n
 
--- a minus stands first
+-- the first byte is a minus
 abbrev pub is_negative : List ℕ → Bool
 is_negative [] = false
 is_negative (b ∷ text) = b == 45
 
--- what follows a plus or a minus, or all where neither stands first
+-- what follows a first plus or minus, or all where neither is first
 abbrev pub unsigned : List ℕ → List ℕ
 unsigned [] = []
 unsigned (b ∷ text) = if (b == 43) || (b == 45) then text else b ∷ text
@@ -77,7 +77,7 @@ IsExponentTail text exponent rest =
 abbrev pub is_end : ℕ → Bool
 is_end b = is_blank b || (b == 44) || (b == 59)
 
--- only letters stand up to white space, a comma, a semicolon or the end
+-- up to white space, a comma, a semicolon or the end there are only letters
 pub record IsEnded (text : List ℕ) : Type 0 where
   pub letters : List ℕ
   pub rest : List ℕ
@@ -105,7 +105,7 @@ pub record IsInLimits (n : Written) : Type 0 where
   pub digits : significant n ≤ 255
   pub exponent : unsigned_abs n.exponent ≤ 32000
 
--- what is wrong with the text: no number stands there, or it has too many digits, or else too large an exponent
+-- the error of a text: it begins with no number, or with one of too many digits, or else of too large an exponent
 -- (SCPI-1999, 21.8.9)
 abbrev pub IsRefusedNumber : List ℕ → ScpiError → Type 0
 IsRefusedNumber text InvalidCharacterInNumber = (n : Written) (rest : List ℕ) → IsNumber text n rest → ⊥

@@ -9,12 +9,11 @@ unfoldable pub last_digits : ℕ → ℕ → List ℕ
 last_digits zero n = []
 last_digits (suc width) n = last_digits width (n / 10) ++ (48 + n % 10) ∷ []
 
--- n / 10 ^ places: what stands before the point, a point, and that many digits
+-- n / 10 ^ places: the whole part, a point, and as many digits as places
 abbrev pub fixed : ℕ → ℕ → List ℕ
 fixed places n = decimal (n / 10 ^ places) ++ 46 ∷ last_digits places n
 
--- a reading in nanovolts as volts with nine decimals; an overload as the number that stands for infinity (SCPI-1999,
--- 7.2.1.4)
+-- a reading in nanovolts as volts with nine decimals; an overload as SCPI's number for infinity (SCPI-1999, 7.2.1.4)
 abbrev pub reading_text : Reading → List ℕ
 reading_text (Volts (pos n)) = fixed 9 n
 reading_text (Volts (negsuc n)) = 45 ∷ fixed 9 (suc n)

@@ -24,7 +24,7 @@ pub fn is_letter(b: u8) -> bool
     b.is_ascii_alphabetic()
 }
 
-/// Whether the byte may stand in a mnemonic after its first letter: a letter, a digit or an underscore.
+/// Whether a mnemonic may have the byte after its first letter: a letter, a digit or an underscore.
 pub fn is_word(b: u8) -> bool
     ensures { result ≡ is_word b }
 {
@@ -64,7 +64,7 @@ pub fn words(bytes: &[u8]) -> (&[u8], &[u8])
     bytes.split_at(n)
 }
 
-/// What stands before the first `mark` and after it.
+/// The bytes before the first `mark` and those after it.
 pub fn split_once(bytes: &[u8], mark: u8) -> Option<(&[u8], &[u8])>
     ensures found { IfSome result (λ x. Lacks mark x.0.now × (bytes.now ≡ x.0.now ++ mark ∷ x.1.now)) }
     ensures none { IfNone result (Lacks mark bytes.now) }

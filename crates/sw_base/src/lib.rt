@@ -1,5 +1,5 @@
-//! What every layer of the mainframe speaks of: limits, channels, errors, runs of bytes, numbers and readings,
-//! and lists that a value owns.
+//! What every layer of the mainframe uses: limits, channels, errors, runs of bytes, numbers and readings, and lists
+//! that a value owns.
 //!
 //! The crate's contract to the layers above: an error has one number, one text and one event bit; a channel is a pair
 //! of numbers in its range; a run of bytes is the longest; a text is one number with one rounded value, or has one

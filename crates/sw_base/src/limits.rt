@@ -23,12 +23,11 @@ pub const LIST_ENTRIES: usize = 512;
 /// How many bytes a program message, its expansion and the payload of a HiSLIP message have at most.
 pub const MESSAGE_BYTES: usize = 65_536;
 
-/// How many bytes are kept of a program message that comes in parts: the longest one, its line feed, and one byte, by
-/// which a longer one is known.
+/// The most bytes that a session keeps of a program message that comes in parts: the longest one, its line feed, and
+/// one byte, which shows a longer one.
 pub const KEPT_BYTES: usize = MESSAGE_BYTES + 2;
 
-/// How many bytes the answers to one program message have at most, with what stands between them and the line feed:
-/// 16 MiB.
+/// The most bytes of the answers to one program message, with their separators and the line feed: 16 MiB.
 pub const ANSWER_BYTES: usize = 16_777_216;
 
 /// How many sessions there are at a time. They are numbered from 1.
@@ -68,7 +67,7 @@ pub const MNEMONIC_BYTES: usize = 12;
 /// How many errors the error queue keeps at most.
 pub const QUEUED_ERRORS: usize = 32;
 
-/// A law: the limits that the code keeps are those that contracts speak of.
+/// A law: the limits that the code keeps are those in contracts.
 pub fn limits_agree()
     ensures slots { (SLOTS ≡ most_slots) × (CHANNELS ≡ most_channels) × (CHANNEL_PLACES ≡ channel_places) }
     ensures texts { (LIST_ENTRIES ≡ most_entries) × (MESSAGE_BYTES ≡ most_bytes) × (KEPT_BYTES ≡ most_kept)

@@ -70,8 +70,8 @@ impl<'a> Model for Nrf<'a> {
 impl<'a> Nrf<'a> {
     /// The number at the front of the text, and the unread rest: a suffix, with white space before it if there is any.
     ///
-    /// White space, a comma or a semicolon ends a number, and letters alone may run on from it. Errors, in this order:
-    /// InvalidCharacterInNumber where no number stands there, TooManyDigits, ExponentTooLarge.
+    /// White space, a comma or a semicolon ends a number; only letters may follow it directly. Errors, in this order:
+    /// InvalidCharacterInNumber where the text begins with no number, TooManyDigits, ExponentTooLarge.
     pub fn read(text: &'a [u8]) -> Result<(Nrf<'a>, &'a [u8]), ScpiError>
         ensures number { IfOk result (λ x. IsNumber text.now x.0 x.1.now) }
         ensures within { IfOk result (λ x. IsInLimits x.0) }
@@ -163,7 +163,7 @@ pub fn one_reading()
         → IsRefusedNumber text e → ⊥ }
 {}
 
-/// Whether a minus stands first, and what follows the sign, if there is one.
+/// Whether the first byte is a minus, and what follows the sign, if there is one.
 fn sign(text: &[u8]) -> (bool, &[u8])
     ensures negative { result.0 ≡ is_negative text.now }
     ensures rest { result.1.now ≡ unsigned text.now }
@@ -174,7 +174,7 @@ fn sign(text: &[u8]) -> (bool, &[u8])
     }
 }
 
-/// The digits behind a point, if one stands first, and what follows them.
+/// The digits behind a point, if the text begins with one, and what follows them.
 fn fraction(text: &[u8]) -> (&[u8], &[u8])
     ensures { IsFraction text.now result.0.now result.1.now }
 {
@@ -184,7 +184,7 @@ fn fraction(text: &[u8]) -> (&[u8], &[u8])
     }
 }
 
-/// The mantissa at the front, if one stands there, as a number without exponent; and what follows it.
+/// The mantissa at the front, if there is one, as a number without exponent; and what follows it.
 pub fn read_mantissa(text: &[u8]) -> Option<(Nrf<'_>, &[u8])>
     ensures found { IfSome result (λ x. IsMantissa text.now x.0 x.1.now × (x.0.exponent ≡ pos 0)) }
     ensures none { IfNone result ((n : Written) (rest : List ℕ) → IsMantissa text.now n rest → ⊥) }
@@ -206,7 +206,7 @@ pub fn read_mantissa(text: &[u8]) -> Option<(Nrf<'_>, &[u8])>
     ))
 }
 
-/// What follows an `E` or `e`, where one stands first.
+/// What follows an `E` or `e`, where the text begins with one.
 fn strip_mark(text: &[u8]) -> Option<&[u8]>
     ensures found { IfSome result (λ after. (text.now ≡ 69 ∷ after.now) ⊎ (text.now ≡ 101 ∷ after.now)) }
     ensures none { IfNone result ((after : List ℕ) → (text.now ≡ 69 ∷ after) ⊎ (text.now ≡ 101 ∷ after) → ⊥) }
@@ -217,7 +217,7 @@ fn strip_mark(text: &[u8]) -> Option<&[u8]>
     }
 }
 
-/// An exponent as a text writes it: its sign, its digits, and whether white space stands round its `E`.
+/// An exponent as a text writes it: its sign, its digits, and whether white space is round its `E`.
 #[derive(Clone, Copy, Debug)]
 pub struct Exponent<'a> {
     pub negative: bool,
@@ -225,7 +225,7 @@ pub struct Exponent<'a> {
     pub apart: bool,
 }
 
-/// The exponent at the front, if one stands there, and what follows it.
+/// The exponent at the front, if there is one, and what follows it.
 pub fn read_exponent(text: &[u8]) -> Option<(Exponent<'_>, &[u8])>
     ensures found { IfSome result (λ x. (e : IsExponent text.now x.0.negative x.0.digits.now x.1.now)
         × (IsTrue x.0.apart ↔ (0 < length e.before + length e.gap))) }
@@ -262,7 +262,7 @@ fn tail(text: &[u8]) -> (bool, &[u8], &[u8])
     }
 }
 
-/// Whether only letters stand up to white space, a comma, a semicolon or the end.
+/// Whether the text has only letters up to white space, a comma, a semicolon or the end.
 fn is_ended(text: &[u8]) -> bool
     ensures { IsTrue result ↔ IsEnded text.now }
 {
@@ -270,7 +270,7 @@ fn is_ended(text: &[u8]) -> bool
     is_at_end(rest)
 }
 
-/// Whether white space, a comma, a semicolon or nothing stands first.
+/// Whether the text is empty or begins with white space, a comma or a semicolon.
 fn is_at_end(text: &[u8]) -> bool
     ensures { IsTrue result ↔ StartsOff (λ b. not (is_end b)) text.now }
 {
@@ -350,7 +350,7 @@ fn nearest(first: &[u8], second: &[u8], next: u8) -> Option<u64>
     append(append(0, first)?, second)?.checked_add(u64::from(next >= b'5'))
 }
 
-/// How much a run of digits writes, unless it is above the largest exponent.
+/// The number that a run of digits writes, unless it is above the largest exponent.
 fn exponent_size(digits: &[u8]) -> Option<u32>
     requires { AllPass is_digit digits.now }
     ensures some { IfSome result (λ n. (n ≡ value_of digits.now) × (n ≤ 32000)) }

@@ -40,7 +40,7 @@ impl ArmLayer {
     }
 }
 
-/// A law: the list of the ARM layers is that of which contracts speak.
+/// A law: the list of the ARM layers is the one in contracts.
 pub fn arms_agree()
     ensures { ARMS ≡ arm_layers }
 {}

@@ -12,8 +12,8 @@ use Rattle.sw_verify.specs.Channels.{same_channel, is_among}
 use Rattle.sw_verify.proofs.Round.{same_channel_is, same_channel_self}
 use Rattle.sw_cage.specs.Accounts.{Accounts, card_contents, slot_contents, layout_of, option_closed, is_closed, OptionWellFormed, option_set, with_chan}
 use Rattle.sw_cage.specs.Accounts.{option_rest, all_open, IsSlotFault}
-use Rattle.sw_cage.specs.Change.{Sets, option_failed, any_failed, identity, IsDisturbed}
-use Rattle.sw_cage.proofs.SlotChangeLemmas.{slot_set_same, slot_cases, slot_get, map_slot, present_slot, present_at, same_chan, IsSlotGrown, layout_all_open}
+use Rattle.sw_cage.specs.Change.{Sets, option_failed, any_failed, identity, OneFailed, IsDisturbed}
+use Rattle.sw_cage.proofs.SlotChangeLemmas.{slot_set_same, slot_set_other, slot_rest, slot_cases, map_slot, present_slot, present_at, same_chan, IsSlotGrown, layout_all_open}
 
 -- channels
 
@@ -169,20 +169,13 @@ next_ne m n h = let ne : n ≡ m → ⊥ = λ e. omega arith in grind (arith, co
 same_count : (n : ℕ) → not (n == n) ≡ false
 same_count n = grind (arith, common_steps)
 
-option_unfailed : (o : Option Account) → option_failed o o ≡ false
+pub option_unfailed : (o : Option Account) → option_failed o o ≡ false
 option_unfailed None = refl
 option_unfailed (Some a) = same_count a.failures
 
 pub failed_same : (rack : Accounts) → any_failed rack rack ≡ false
 failed_same [] = refl
 failed_same (o ∷ rack) = ap (λ b. b || any_failed rack rack) (option_unfailed o) ∙ failed_same rack
-
--- one slot's change alone decides
-pub failed_set : (rack : Accounts) (i : ℕ) (v : Option Account) → i < length rack
-    → any_failed rack (slice_set rack i v) ≡ option_failed (slice_index_or rack i None) v
-failed_set [] i v h = absurd (omega arith)
-failed_set (o ∷ rack) zero v h = ap (λ b. option_failed o v || b) (failed_same rack) ∙ or_false (option_failed o v)
-failed_set (o ∷ rack) (suc i) v h = ap (λ b. b || any_failed rack (slice_set rack i v)) (option_unfailed o) ∙ failed_set rack i v (omega arith)
 
 pub rest_old : (o n : Option Account) → option_failed (option_rest o) n ≡ option_failed o n
 rest_old None n = refl
@@ -208,9 +201,6 @@ failed_rest (o ∷ rack) (v ∷ n) = let e = rest_new o v in let f = failed_rest
 -- where all but the states is as it was, no card failed
 pub sets_unfailed : (old new : Accounts) → all_open new ≡ all_open old → any_failed old new ≡ false
 sets_unfailed old new e = sym (failed_rest old new) ∙ ap (any_failed old) e ∙ failed_rest old old ∙ failed_same old
-
-pub failed_from : (old now new : Accounts) → all_open now ≡ all_open old → any_failed now new ≡ any_failed old new
-failed_from old now new e = sym (failed_rest_old now new) ∙ ap (λ r. any_failed r new) e ∙ failed_rest_old old new
 
 -- faults
 
@@ -263,12 +253,47 @@ fault_failed (Some a) None n f = absurd f
 fault_failed (Some a) (Some m) None f = absurd f
 fault_failed (Some a) (Some m) (Some b) f = next_ne b.failures a.failures f.count
 
+-- one slot's change alone is counted
+unfoldable pub failed_alone : (rack : Accounts) (s : ℕ) (v : Option Account) → 0 < s → s ≤ length rack → option_failed (slot_at rack s) v ≡ true
+    → OneFailed rack (slice_set rack (s - 1) v)
+failed_alone rack s v p h f = record {
+  slot = s;
+  counted = ap (option_failed (slot_at rack s)) (slot_set_same rack s v p h) ∙ f;
+  others = λ t n. ap (option_failed (slot_at rack t)) (slot_set_other rack s t v p n) ∙ option_unfailed (slot_at rack t);
+}
+
+-- where the states of channels alone were others before
+pub counted_from : (old mid new : Accounts) (s : ℕ) → all_open mid ≡ all_open old
+    → option_failed (slot_at old s) (slot_at new s) ≡ option_failed (slot_at mid s) (slot_at new s)
+counted_from old mid new s m =
+    let same : option_rest (slot_at old s) ≡ option_rest (slot_at mid s) =
+    sym (slot_rest old s) ∙ ap (λ (r : Accounts). slot_at r s) (sym m) ∙ slot_rest mid s in
+    sym (rest_old (slot_at old s) (slot_at new s)) ∙ ap (λ o. option_failed o (slot_at new s)) same ∙ rest_old (slot_at mid s) (slot_at new s)
+
+unfoldable pub one_from : (old mid new : Accounts) → all_open mid ≡ all_open old → OneFailed mid new → OneFailed old new
+one_from old mid new m f = record {
+  slot = f.slot;
+  counted = counted_from old mid new f.slot m ∙ f.counted;
+  others = λ t n. counted_from old mid new t m ∙ f.others t n;
+}
+
+pub counted_rested : (old new : Accounts) (s : ℕ) → option_failed (slot_at old s) (slot_at (all_open new) s) ≡ option_failed (slot_at old s) (slot_at new s)
+counted_rested old new s = ap (option_failed (slot_at old s)) (slot_rest new s) ∙ rest_new (slot_at old s) (slot_at new s)
+
+-- opening every relay then counts nothing
+unfoldable pub one_rested : (old new : Accounts) → OneFailed old new → OneFailed old (all_open new)
+one_rested old new f = record {
+  slot = f.slot;
+  counted = counted_rested old new f.slot ∙ f.counted;
+  others = λ t n. counted_rested old new t ∙ f.others t n;
+}
+
 -- one slot's fault
 pub disturbed_one : (rack : Accounts) (c : Channel) (most v : Option Account) → 0 < c.0 → c.0 ≤ length rack → option_rest most ≡ option_rest (slot_at rack c.0)
     → IsSlotFault (slot_at rack c.0) most v → IsSlotGrown (slot_at rack c.0) c.1 v → IsDisturbed rack (c ∷ []) (slice_set rack (c.0 - 1) v)
 disturbed_one rack c most v p h e fault grown = record {
   cards = map_slot identity rack c.0 v p (slot_fault_plate (slot_at rack c.0) most v e fault);
-  failed = failed_set rack (c.0 - 1) v (omega arith) ∙ ap (λ o. option_failed o v) (sym (slot_get rack c.0 p)) ∙ fault_failed (slot_at rack c.0) most v fault;
+  failed = failed_alone rack c.0 v p h (fault_failed (slot_at rack c.0) most v fault);
   within = λ d k. elim (slot_cases rack c.0 d.0 v p h) [
     | inl s ↦ elim (grown.closed d.1 (ap (λ o. option_closed o d.1) (sym s.1) ∙ k))
         [ inl o ↦ inl (ap (λ t. option_closed (slot_at rack t) d.1) s.0 ∙ o) | inr f ↦ inr (in_yes c d (same_chan c d s.0 f)) ]
@@ -281,7 +306,7 @@ pub disturbed_more : (rack now new : Accounts) (chans : List Channel) (i : ℕ) 
     → Sets rack (take i chans) on now → IsDisturbed now (c ∷ []) new → IsDisturbed rack chans new
 disturbed_more rack now new chans i c d on h e before fault = record {
   cards = fault.cards ∙ identities_rest rack now before.rest;
-  failed = sym (failed_from rack now new before.rest) ∙ fault.failed;
+  failed = one_from rack now new before.rest fault.failed;
   within = λ x k. elim (fault.within x k) [
     | inl o ↦ elim (sets_closed rack now (take i chans) on before x o) [ inl r ↦ inl r | inr t ↦ inr (in_take chans i x t) ]
     | inr s ↦ inr (ap (is_among chans) (in_one c x s) ∙ in_at chans i c d h e)

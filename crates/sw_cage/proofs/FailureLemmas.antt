@@ -6,7 +6,7 @@ use Rattle.std.proofs.lemmas.Bool.{or_left, or_right}
 use Rattle.sw_base.specs.Layout.{slot_at}
 use Rattle.sw_card.specs.Account.{Account}
 use Rattle.sw_cage.specs.Accounts.{Accounts, all_open}
-use Rattle.sw_cage.specs.Change.{option_failed, any_failed, RelayFailed}
+use Rattle.sw_cage.specs.Change.{option_failed, any_failed, OneFailed}
 use Rattle.sw_cage.specs.TakenSeen.{TakenSeen, SaysIgnored, SaysWaits, SaysPause, SaysJob, SaysEnded, SaysFault, tells_fault}
 use Rattle.sw_cage.specs.Outcome.{Occupancy, occupancy_of, AdvancesOrFails, Advances, AdvancesPast, AdvancesPastFrom, Counts, with_reading, readings_with}
 use Rattle.sw_cage.specs.Cage.{ScanSeen, CageSeen}
@@ -35,8 +35,8 @@ at_if false x y h = absurd (cc)
 pub failed_at : (old new : Accounts) (s : ℕ) → option_failed (slot_at old s) (slot_at new s) ≡ true → any_failed old new ≡ true
 failed_at old new s h = at_index old new (s - 1) (at_if (nat_lt 0 s) (slice_index_or old (s - 1) None) (slice_index_or new (s - 1) None) h)
 
-pub relay_failed : (old new : Accounts) → RelayFailed old new → any_failed old new ≡ true
-relay_failed old new f = failed_at old new f.slot f.counted
+pub one_failed : (old new : Accounts) → OneFailed old new → any_failed old new ≡ true
+one_failed old new f = failed_at old new f.slot f.counted
 
 or_none : (a b : Bool) → (a || b) ≡ false → (a ≡ false) × (b ≡ false)
 or_none true b h = absurd (cc)
@@ -64,7 +64,7 @@ failed_runs old new number moves at (SaysJob job) scan h =
     ap (any_failed old.cards) (ap (λ (b : Occupancy). b.cards) h.arrives.1.after) ∙ unfailed_out old.cards h.cards (at.course.meter - 1)
     (sets_unfailed old.cards h.cards h.moved.rest)
 failed_runs old new number moves at SaysEnded scan h = like old.cards h.cards new h.moved.rest (ap (λ (b : Occupancy). b.cards) h.arrives.1)
-failed_runs old new number moves at SaysFault scan h = relay_failed old.cards new.cards h.fallen.failed
+failed_runs old new number moves at SaysFault scan h = one_failed old.cards new.cards h.fallen.failed.one
 
 pub failed_goes : (p q : CageSeen) (s : CourseSeen) (i : ℕ) (told : TakenSeen) → Advances p s i told q → any_failed p.cards q.cards ≡ tells_fault told
 failed_goes p q s i told h = failed_runs (occupancy_of p) (occupancy_of q) p.number (moves_from s i) (next_place s i) told q.scan h.runs

@@ -1,6 +1,6 @@
 -- A scan's moves, by the calls on the cards that make them.
 use Rattle.std.proofs.Common.{◌≡◌, ℕ, ◌==◌, ◌||◌, ◌&&◌, not, Bool, true, false, List, [], ◌∷◌, ◌++◌, Option, None, Some, refl, sym, ◌∙◌, ap, subst, arith, ◌+◌}
-use Rattle.std.proofs.Common.{◌<◌, length, drop}
+use Rattle.std.proofs.Common.{◌<◌, ◌≤◌, ◌-◌, length, drop, slice_set}
 use Rattle.std.specs.Prelude.{slice_index_or}
 use Rattle.std.proofs.Common.{if◌then◌else◌, Result, Ok, Err, OnErr}
 use mathlib.Core.Path.{fun_ext}
@@ -12,14 +12,14 @@ use Rattle.sw_verify.specs.Channels.{Channels, same_channel, is_among, with_chan
 use Rattle.sw_verify.specs.Sound.{CanCloseEach, CanOpenEach, effect}
 use Rattle.std.proofs.lemmas.List.{drop_more}
 use Rattle.sw_verify.proofs.Round.{effect-append}
-use Rattle.sw_cage.specs.Accounts.{Accounts, layout_of, is_closed, option_rest, all_open, IsChannelFault}
-use Rattle.sw_cage.specs.Change.{Sets, option_failed, RelayFailed, IsDisturbed}
+use Rattle.sw_cage.specs.Accounts.{Accounts, layout_of, is_closed, all_open, IsChannelFault}
+use Rattle.sw_cage.specs.Change.{Sets, OneFailed, RelayFailed, IsDisturbed}
 use Rattle.sw_cage.specs.Moves.{RelayCallFailed}
 use Rattle.sw_cage.specs.Cage.{ScanSeen}
 use Rattle.sw_cage.specs.TakenSeen.{TakenSeen, SaysIgnored, SaysWaits, SaysPause, SaysJob, SaysEnded, SaysFault}
 use Rattle.sw_cage.specs.Outcome.{Moved, IsSafeAfterFault, Occupancy, Reaches, AdvancesOrFails}
-use Rattle.sw_cage.proofs.SlotChangeLemmas.{slot_rest, all_open_closed}
-use Rattle.sw_cage.proofs.ChannelCallLemmas.{or_false, layout_rest, identities_rest, identities_all_open, rest_old, rest_new, fault_failed}
+use Rattle.sw_cage.proofs.SlotChangeLemmas.{present_slot, all_open_closed}
+use Rattle.sw_cage.proofs.ChannelCallLemmas.{or_false, layout_rest, identities_rest, identities_all_open, fault_failed, failed_alone, one_from, one_rested}
 
 swap_eq : (m n : ℕ) → (m == n) ≡ (n == m)
 swap_eq m n = grind (arith, common_steps)
@@ -111,35 +111,25 @@ not_meter (Some (relays groups)) ch h = refl
 -- a call on a channel that is there failed
 pub broken_call : (old most new : Accounts) (c : Channel) → is_present (layout_of old) c ≡ true → IsChannelFault old c most new → IsDisturbed old (c ∷ []) new
     → RelayCallFailed old new
-broken_call old most new c p f d = record {
-  cards = d.cards;
-  failed = record {
-    slot = c.0;
-    relays = not_meter (slot_at (layout_of old) c.0) c.1 p;
-    counted =
-        fault_failed (slot_at old c.0) (slot_at most c.0) (slot_at new c.0) f.fault;
-  };
-}
-
-relay_after : (old mid new : Accounts) → all_open mid ≡ all_open old → RelayFailed mid new → RelayFailed old new
-relay_after old mid new m f =
-    let s = f.slot in
-    let same : option_rest (slot_at old s) ≡ option_rest (slot_at mid s) =
-    sym (slot_rest old s) ∙ ap (λ (r : Accounts). slot_at r s) (sym m) ∙ slot_rest mid s in
-    record {
-      slot = s;
-      relays = ap (λ (l : Layout). has_meter l s) (sym (layout_rest old mid m)) ∙ f.relays;
-      counted = sym (rest_old (slot_at old s) (slot_at new s)) ∙ ap (λ o. option_failed o (slot_at new s)) same ∙ rest_old (slot_at mid s) (slot_at new s) ∙
-          f.counted;
+unfolding failed_alone
+broken_call old most new c p f d =
+    let b : (0 < c.0) × (c.0 ≤ length old) = present_slot old c p in
+    let one : OneFailed old (slice_set old (c.0 - 1) (slot_at new c.0)) =
+    failed_alone old c.0 (slot_at new c.0) b.0 b.1 (fault_failed (slot_at old c.0) (slot_at most c.0) (slot_at new c.0) f.fault) in record {
+      cards = d.cards;
+      failed = subst (RelayFailed old) (sym f.others) (record { one = one; relays = not_meter (slot_at (layout_of old) c.0) c.1 p });
     }
 
-relay_rested : (old new : Accounts) → RelayFailed old new → RelayFailed old (all_open new)
-relay_rested old new f = record {
-  slot = f.slot;
-  relays = f.relays;
-  counted =
-      ap (option_failed (slot_at old f.slot)) (slot_rest new f.slot) ∙ rest_new (slot_at old f.slot) (slot_at new f.slot) ∙ f.counted;
+relay_after : (old mid new : Accounts) → all_open mid ≡ all_open old → RelayFailed mid new → RelayFailed old new
+unfolding one_from
+relay_after old mid new m f = record {
+  one = one_from old mid new m f.one;
+  relays = ap (λ (l : Layout). has_meter l f.one.slot) (sym (layout_rest old mid m)) ∙ f.relays;
 }
+
+relay_rested : (old new : Accounts) → RelayFailed old new → RelayFailed old (all_open new)
+unfolding one_rested
+relay_rested old new f = record { one = one_rested old new f.one; relays = f.relays }
 
 pub broken_since : (old mid new : Accounts) → all_open mid ≡ all_open old → RelayCallFailed mid new → RelayCallFailed old new
 broken_since old mid new m b = record { cards = b.cards ∙ identities_rest old mid m; failed = relay_after old mid new m b.failed }

@@ -12,8 +12,8 @@ pub record ScanSeen : Type 0 where
   pub course : CourseSeen
   pub index : ℕ
 
--- what is seen of a cage: the cards in their slots, by slot the ticket under which its meter is out, the number of
--- scans begun, the scan that runs, and the readings of the last one
+-- a cage as data: the cards in their slots, by slot the ticket under which its meter is out, the number of scans begun,
+-- the scan that runs, and the readings of the last one
 pub record CageSeen : Type 0 where
   pub cards : Accounts
   pub out : List (Option Ticket)

@@ -1,5 +1,5 @@
 -- What a call on a list of channels does to the cage.
-use Rattle.std.specs.Prelude.{◌≡◌, ℕ, ◌==◌, Bool, true, false, not, ◌||◌, List, [], ◌∷◌, map, Option, None, Some}
+use Rattle.std.specs.Prelude.{◌≡◌, ◌≢◌, ℕ, ◌==◌, Bool, true, false, not, ◌||◌, List, [], ◌∷◌, map, Option, None, Some}
 use Rattle.std.specs.Prelude.{if◌then◌else◌, ◌⊎◌}
 use Rattle.sw_base.specs.Layout.{Channel, slot_at, has_meter}
 use Rattle.sw_card.specs.Account.{Account, none_closed}
@@ -23,11 +23,16 @@ any_failed (a ∷ old) (b ∷ new) = option_failed a b || any_failed old new
 any_failed [] new = false
 any_failed (a ∷ old) [] = false
 
--- a relay card's count of failures changed
-pub record RelayFailed (old new : Accounts) : Type 0 where
+-- one card's count of failures changed, and that of no other card
+pub record OneFailed (old new : Accounts) : Type 0 where
   pub slot : ℕ
-  pub relays : has_meter (layout_of old) slot ≡ false
   pub counted : option_failed (slot_at old slot) (slot_at new slot) ≡ true
+  pub others : (other : ℕ) → other ≢ slot → option_failed (slot_at old other) (slot_at new other) ≡ false
+
+-- that of a relay card
+pub record RelayFailed (old new : Accounts) : Type 0 where
+  pub one : OneFailed old new
+  pub relays : has_meter (layout_of old) one.slot ≡ false
 
 -- a card but for its channels' states and its count of failures
 abbrev pub identity : Option Account → Option Account
@@ -37,5 +42,5 @@ identity (Some a) = Some (record a { failures = 0; closed = none_closed a.closed
 -- A card call failed: the cards are the same, and nothing is closed but what was and channels of the list.
 pub record IsDisturbed (old : Accounts) (chans : List Channel) (new : Accounts) : Type 0 where
   pub cards : map identity new ≡ map identity old
-  pub failed : any_failed old new ≡ true
+  pub failed : OneFailed old new
   pub within : (c : Channel) → is_closed new c ≡ true → (is_closed old c ≡ true) ⊎ (is_among chans c ≡ true)

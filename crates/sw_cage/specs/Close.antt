@@ -26,7 +26,7 @@ pub record CanClose (layout : Layout) (closed : Channel → Bool) (chans : List 
   pub present : all_present layout chans ≡ true
   pub apart : HasClash layout (closed_with closed chans) → ⊥
 
--- which refusal comes when; an absent channel goes first
+-- which refusal applies when; an absent channel is first
 abbrev pub RefusesClose : Layout → (Channel → Bool) → List Channel → CloseRefusal → Type 0
 RefusesClose layout closed chans Absent = all_present layout chans ≡ false
 RefusesClose layout closed chans Clash = (all_present layout chans ≡ true) × HasClash layout (closed_with closed chans)

@@ -1,4 +1,4 @@
--- What is so of every cage.
+-- What holds of every cage.
 use Rattle.std.specs.Prelude.{◌≡◌, ℕ, ◌≤◌, true, length, take, Option, Some, None, is_some}
 use Rattle.sw_base.specs.Limits.{most_slots}
 use Rattle.sw_base.specs.Layout.{Layout, slot_at, has_meter}
@@ -13,7 +13,7 @@ use Rattle.sw_cage.specs.Cage.{ScanSeen, CageSeen, cage_layout, ticket_of}
 use Rattle.sw_cage.specs.Advance.{awaits}
 use Rattle.sw_cage.specs.declared.job.Ticket.{Ticket}
 
--- A sound scan has done the items before this one: from some channels that it found closed it has come to these.
+-- A sound scan has done the items before this one: they lead from some channels that it found closed to these.
 pub record HasDone (layout : Layout) (closed : Channels) (course : CourseSeen) (index : ℕ) : Type 0 where
   pub found : Channels
   pub sound : IsSound layout found course.points course.items
@@ -27,7 +27,8 @@ MeterStands out ticket (Some (Period name micros)) = out ≡ None
 MeterStands out ticket (Some (Pause micros)) = out ≡ None
 MeterStands out ticket (Some Read) = out ≡ Some ticket
 
--- A scan runs: it is sound for the cage's cards, stands at an item that awaits, and has made the readings before that.
+-- A scan runs: it is sound for the cage's cards, its place is an item that awaits, and it has made the readings before
+-- that.
 pub record IsUnderway (p : CageSeen) (at : ScanSeen) : Type 0 where
   pub slot_in : (1 ≤ at.course.meter) × (at.course.meter ≤ most_slots)
   pub measured : has_meter (cage_layout p) at.course.meter ≡ true
@@ -46,7 +47,7 @@ pub record IsHeld (p : CageSeen) : Type 0 where
   pub empty : (slot : ℕ) → is_some (slot_at p.out slot) ≡ true → slot_at p.cards slot ≡ None
   pub past : (slot : ℕ) (ticket : Ticket) → slot_at p.out slot ≡ Some ticket → ticket.scan ≤ p.number
 
--- what is so of every cage: a scan that runs is underway
+-- what holds of every cage: a scan that runs is underway
 pub record IsGood (p : CageSeen) : Type 0 where
   pub held : IsHeld p
   pub running : IsRunning p p.scan

@@ -31,7 +31,7 @@ IsUnfit card = (length card.groups ≡ 0)
 abbrev pub IsBadLayout : ℕ → Account → Type 0
 IsBadLayout slot card = (slot < 1) ⊎ ((most_slots < slot) ⊎ ((is_meter card ≡ false) × IsUnfit card))
 
--- Which refusal comes when; an occupied slot goes first.
+-- Which refusal applies when; an occupied slot is first.
 abbrev pub SlotsRefuseInstall : Accounts → ℕ → Account → InstallRefusal → Type 0
 SlotsRefuseInstall rack slot card Busy = ⊥
 SlotsRefuseInstall rack slot card Occupied = is_some (slot_at rack slot) ≡ true
@@ -41,7 +41,7 @@ abbrev pub SlotsRefuseEject : Accounts → ℕ → EjectRefusal → Type 0
 SlotsRefuseEject rack slot Vacant = slot_at rack slot ≡ None
 SlotsRefuseEject rack slot Out = ⊥
 
--- Which refusal of a card comes when: a scan that runs goes first, then a slot with a card, in it or out.
+-- Which refusal of a card applies when: a scan that runs is first, then a slot with a card, in it or out.
 abbrev pub RefusesInstall : CageSeen → ℕ → Account → InstallRefusal → Type 0
 RefusesInstall p slot card Busy = is_some p.scan ≡ true
 RefusesInstall p slot card Occupied =

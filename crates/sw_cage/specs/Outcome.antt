@@ -57,8 +57,8 @@ lasting (Some (Period name micros)) = Some micros
 lasting (Some (Pause micros)) = Some micros
 lasting (Some Read) = None
 
--- What is told where the scan has come to this place: what it awaits there. A pause and a reading come with their
--- ticket, and for a reading the meter goes out.
+-- The outcome of a scan that reaches this place: what it awaits there. A pause and a reading come with their ticket,
+-- and for a reading the meter goes out.
 abbrev pub Arrives : Occupancy → ℕ → ScanSeen → TakenSeen → Occupancy → Option ScanSeen → Type 0
 Arrives old number at SaysIgnored new scan = ⊥
 Arrives old number at SaysWaits new scan = ((name : LayerName) × (awaits at ≡ Some (Wait name))) × (new ≡ old)
@@ -70,7 +70,7 @@ Arrives old number at (SaysJob job) new scan =
 Arrives old number at SaysEnded new scan = (awaits at ≡ None) × (new ≡ old) × (scan ≡ None)
 Arrives old number at SaysFault new scan = ⊥
 
--- after the moves the scan has come to this place
+-- after the moves the scan is at this place
 pub record Reaches (old : Occupancy) (number : ℕ) (moves : List Item) (at : ScanSeen) (told : TakenSeen)
     (new : Occupancy)
     (scan : Option ScanSeen) : Type 0 where
@@ -84,7 +84,7 @@ pub record EntersSafeState (old new : Occupancy) (scan : Option ScanSeen) : Type
   pub out : new.out ≡ old.out
   pub over : scan ≡ None
 
--- the moves are made, and the place is reached, unless a card call fails
+-- the cage makes the moves, and the scan reaches the place, unless a card call fails
 abbrev pub AdvancesOrFails : Occupancy → ℕ → List Item → ScanSeen → TakenSeen → Occupancy → Option ScanSeen → Type 0
 AdvancesOrFails old number moves at SaysFault new scan = EntersSafeState old new scan
 AdvancesOrFails old number moves at SaysIgnored new scan = Reaches old number moves at SaysIgnored new scan
@@ -94,7 +94,7 @@ AdvancesOrFails old number moves at (SaysPause ticket micros) new scan =
 AdvancesOrFails old number moves at (SaysJob job) new scan = Reaches old number moves at (SaysJob job) new scan
 AdvancesOrFails old number moves at SaysEnded new scan = Reaches old number moves at SaysEnded new scan
 
--- From item i of its course the scan goes on to the next awaiting item, and tells what it awaits there.
+-- From item i of its course the scan advances to the next awaiting item; the outcome says what it awaits there.
 pub record Advances (p : CageSeen) (course : CourseSeen) (i : ℕ) (told : TakenSeen) (q : CageSeen) : Type 0 where
   pub runs :
       AdvancesOrFails (occupancy_of p) p.number (moves_from course i) (next_place course i) told (occupancy_of q) q.scan
@@ -116,7 +116,7 @@ with_back p done = record p {
   out = slice_set p.out (done.slot - 1) None;
 }
 
--- the readings once a measurement has come to this: a reading is added, a failure adds none
+-- the readings after a measurement: a reading is one more, a failure adds none
 abbrev pub readings_with : List Reading → Result Reading CardFault → List Reading
 readings_with readings (Ok r) = readings ++ r ∷ []
 readings_with readings (Err e) = readings
@@ -124,7 +124,7 @@ readings_with readings (Err e) = readings
 abbrev pub with_reading : CageSeen → Reading → CageSeen
 with_reading p r = record p { readings = p.readings ++ r ∷ [] }
 
--- a return that the scan takes, the meter being back: its reading is added and the scan goes on; its failure ends the
+-- a return that the scan takes, the meter being back: the scan adds its reading and continues; its failure ends the
 -- scan
 abbrev pub Counts : CageSeen → Result Reading CardFault → TakenSeen → CageSeen → Type 0
 Counts p (Ok r) told q = AdvancesPast (with_reading p r) told q

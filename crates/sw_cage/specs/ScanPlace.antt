@@ -18,7 +18,7 @@ scan_seen s = record {
   index = s.index;
 }
 
--- from its place the code does the items from that index on; it stands at a step that does more than count
+-- from its place the code does the items from that index on; its place is at a step that does more than count
 pub record IsPlaced (s : Inside) : Type 0 where
   pub runs : CanRun s.code
   pub does : Does s.code.steps s.at (drop s.index (items_of s.code.steps))

@@ -1,4 +1,4 @@
--- Where in its code a scan stands, and what is done there.
+-- A scan's place in its code, and what the scan does there.
 use Rattle.std.specs.Prelude.{◌≡◌, ℕ, List, [], ◌∷◌, Option, Some, None, slice_index_or}
 use Rattle.sw_trigger.specs.Agenda.{Item, Awaits, Close, Open}
 use Rattle.sw_code.specs.declared.code.Step.{Step}

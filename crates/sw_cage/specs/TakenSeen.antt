@@ -1,4 +1,4 @@
--- What the cage tells of a happening, as plain data.
+-- The cage's outcome of a happening, as plain data.
 use Rattle.std.specs.Prelude.{ℕ, Bool, true, false}
 use Rattle.sw_cage.specs.Work.{JobSeen}
 use Rattle.sw_cage.specs.declared.job.Ticket.{Ticket}
@@ -21,7 +21,7 @@ taken_seen (Job job) = SaysJob job.1
 taken_seen Ended = SaysEnded
 taken_seen Fault = SaysFault
 
--- whether a card's failure is told
+-- whether the outcome is a card's failure
 abbrev pub tells_fault : TakenSeen → Bool
 tells_fault SaysIgnored = false
 tells_fault SaysWaits = false

@@ -11,7 +11,7 @@ pub record JobSeen : Type 0 where
   pub ticket : Ticket
   pub meter : MeterAccount
 
--- a meter that has measured, its count of failures before that, and what came of it
+-- a meter that has measured, its count of failures before that, and the outcome
 pub record FinishedSeen : Type 0 where
   pub slot : ℕ
   pub ticket : Ticket

@@ -24,6 +24,7 @@ ghost use Rattle.sw_cage.specs.Outcome.{Advances, AdvancesPast, Counts, begun, w
 
 mod awaiting;
 mod layout;
+mod surety;
 
 use crate::job::{Finished, Ticket};
 use crate::refusal::{CloseRefusal, EjectRefusal, InstallRefusal};
@@ -41,9 +42,9 @@ use sw_verify::Course;
 
 /// Slots, numbered from 1, that hold relay and meter cards.
 ///
-/// Contracts see the cards themselves by slot (`cards`), and what is seen of the cage (`seen`), where the cards stand
-/// by their own accounts. A meter stays the very card in whatever is done with the others. A relay card whose relays
-/// are driven goes on to another state of its driver, of which its account alone is known.
+/// Contracts see the cards themselves by slot (`cards`), and the cage as data (`seen`), in which each card is its own
+/// account. A meter stays the very card in every call on the others. A relay card whose relays a call drives gets
+/// another state of its driver; of that, contracts know only its account.
 #[derive(Drop)]
 pub struct Cage<R: Relay, M: Meter> {
     slots: Slots<R, M>,
@@ -104,7 +105,7 @@ impl<R: Relay, M: Meter> Cage<R, M> {
         })
     }
 
-    /// Puts a card into an empty slot. A refused card is handed back.
+    /// Puts a card into an empty slot. A refused card comes back.
     pub fn install(
         &mut self,
         slot: u8,
@@ -128,9 +129,9 @@ impl<R: Relay, M: Meter> Cage<R, M> {
         self.slots.install(slot, card)
     }
 
-    /// Opens the card's relays and takes it out; a scan that runs is ended first, as by [`Cage::abort`].
+    /// Opens the card's relays and takes it out; it first ends a scan that runs, as [`Cage::abort`] does.
     ///
-    /// A meter is the very card that stood there. Of a relay card its account is known, with every relay open.
+    /// A meter is the very card that was there. Of a relay card contracts know its account, with every relay open.
     pub fn eject(&mut self, slot: u8) -> Result<Card<R, M>, EjectRefusal>
         ensures ok { IfOk result (λ card. option_rest (slot_at self.old.seen.cards slot) ≡ Some card.1) }
         ensures open { IfOk result (λ card. (ch : ℕ) → closed_at card.1.closed ch ≡ false) }
@@ -314,7 +315,7 @@ impl<R: Relay, M: Meter> Cage<R, M> {
         self.readings.clear();
     }
 
-    /// A law: what is so of every cage. It costs nothing.
+    /// A law: what holds of every cage. It costs nothing.
     pub fn stays_good(&self)
         ensures good { IsGood self.now.seen }
         ensures accounts { self.now.seen.cards ≡ accounts_of self.now.cards }
@@ -330,9 +331,9 @@ impl<R: Relay, M: Meter> Cage<R, M> {
         self.scan.is_some()
     }
 
-    /// Begins the scan of a course that is sound for the cards and what is closed: its number is one more, and the
-    /// readings of the last one are dropped. Room for its readings is made first, or theirs is taken, so that nothing
-    /// that happens to it wants memory; after an error nothing changed.
+    /// Begins the scan of a course that is sound for the cards and what is closed: its number is one more, and the cage
+    /// drops the readings of the last one. It first takes memory for its readings, or uses theirs, so that no happening
+    /// of the scan needs memory; after an error nothing changed.
     pub fn start(&mut self, alloc: Global, course: Course) -> Result<Taken<M>, AllocError>
         requires idle { self.old.seen.scan ≡ None }
         requires number { self.old.seen.number + 1 < 2 ^ 64 }
@@ -355,7 +356,7 @@ impl<R: Relay, M: Meter> Cage<R, M> {
         Ok(taken)
     }
 
-    /// Tells the scan that runs of a happening. One that it does not take changes nothing.
+    /// Offers a happening to the scan that runs. One that it does not take changes nothing.
     #[inline(always)]
     pub fn take(&mut self, happening: Happening) -> Taken<M>
         ensures ignored { (Takes self.old.seen happening → ⊥)
@@ -392,10 +393,10 @@ impl<R: Relay, M: Meter> Cage<R, M> {
         go_past(&mut self.slots, &mut self.out, &mut self.scan, self.number)
     }
 
-    /// Takes a meter back, unless it is not out of its slot under its ticket: then it is handed back.
+    /// Takes a meter back. `Err` gives back one that is not out of its slot under its ticket.
     ///
-    /// Where the scan that runs awaits it, its reading is added and the scan goes on; its failure ends the scan, as
-    /// that of any card call. The late return of a scan that is over adds nothing, and its failure ends nothing.
+    /// Where the scan that runs awaits it, the scan adds its reading and continues; its failure ends the scan, as that
+    /// of any card call. The late return of a scan that is over adds nothing, and its failure ends nothing.
     ///
     /// The slot has the very meter that came, unless the scan sent it out again: then it is that of the job.
     #[inline(always)]
@@ -453,7 +454,7 @@ impl<R: Relay, M: Meter> Cage<R, M> {
         take_in(&mut self.slots, &mut self.out, slot, meter);
     }
 
-    /// Puts the meter back that the scan awaits, and goes on with its reading.
+    /// Puts the meter back that the scan awaits, adds its reading and advances the scan; its failure ends the scan.
     #[inline(always)]
     fn count(&mut self, finished: Finished<M>) -> Taken<M>
         requires out { slot_at self.old.seen.out finished.1.slot ≡ Some finished.1.ticket }
@@ -479,7 +480,8 @@ impl<R: Relay, M: Meter> Cage<R, M> {
     }
 }
 
-/// Room for so many readings, with none in it: that of the last ones where it is enough. After an error they stand.
+/// Room for `count` readings, with none in it: that of the last ones where it is enough. After an error the last ones
+/// are unchanged.
 fn room_for(
     alloc: Global,
     last: &mut Vec<Reading>,

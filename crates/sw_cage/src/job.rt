@@ -7,7 +7,7 @@ use std::marker::Model;
 use sw_base::Reading;
 use sw_card::{CardFault, Meter, MeterCard};
 
-/// What a pause or a reading is awaited under: the number of its scan, and which of that scan's items it is.
+/// The ticket of a pause or a reading that a scan awaits: the number of the scan, and which of its items it is.
 #[derive(Clone, Copy, Debug, PartialEq, Eq)]
 pub struct Ticket {
     pub scan: u64,
@@ -40,7 +40,7 @@ impl<M: Meter> Model for Job<M> {
     ghost view = { λ j. (j.meter.0, record { slot = j.slot; ticket = j.ticket; meter = j.meter.1 }) };
 }
 
-/// A meter that has measured, and what came of it. Only [`Job::run`] makes one.
+/// A meter that has measured, and the outcome. Only [`Job::run`] makes one.
 #[derive(Drop)]
 pub struct Finished<M: Meter> {
     pub(crate) slot: u8,
@@ -83,7 +83,7 @@ impl<M: Meter> Job<M> {
         self.slot
     }
 
-    /// What it is out under.
+    /// The ticket that it is out under.
     pub fn ticket(&self) -> Ticket
         ensures { result ≡ self.now.1.ticket }
     {
@@ -120,14 +120,14 @@ impl<M: Meter> Finished<M> {
         self.slot
     }
 
-    /// What it was out under.
+    /// The ticket that it was out under.
     pub fn ticket(&self) -> Ticket
         ensures { result ≡ self.now.1.ticket }
     {
         self.ticket
     }
 
-    /// What the measurement came to: a reading is the meter's last one, and a failure the meter has counted.
+    /// The outcome of the measurement: a reading is the meter's last one, and the meter has counted a failure.
     pub fn outcome(&self) -> Result<Reading, CardFault>
         ensures outcome { result ≡ self.now.1.outcome }
         ensures reading { IfOk result (λ r. self.now.1.meter.last ≡ Some r) }

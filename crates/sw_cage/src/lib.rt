@@ -2,14 +2,14 @@
 //! that runs a scan over them.
 //!
 //! The crate's contract to the layers above: at the end of each call only present channels are closed, and no two
-//! closed ones share a nonzero group, whatever the cards answered (`Cage::stays_good`). A scan begins from a `Course`
-//! that is sound for the cards and what is closed, whatever its code was made from; it takes a happening exactly where
-//! it awaits it, and does the closings and openings of its items in order up to the next thing that it awaits, with no
-//! test of a card. Its meter goes out as a `Job` under a ticket, and is taken back from nowhere else. An abort, an
-//! eject while a scan runs and a failing card call of a scan end it with every relay open.
+//! closed ones share a nonzero group, for any answers of the cards (`Cage::stays_good`). A scan begins from a `Course`
+//! that is sound for the cards and what is closed, from any source of its code; it takes a happening exactly where it
+//! awaits it, and does the closings and openings of its items in order up to the next thing that it awaits, with no
+//! test of a card. Its meter goes out as a `Job` under a ticket; the cage takes it back under that ticket alone. An
+//! abort, an eject while a scan runs and a failing card call of a scan end it with every relay open.
 //!
-//! Making a cage, starting a scan and listing channels or cards take memory; nothing that happens to a scan does. What
-//! a relay really does is the card's own word.
+//! Making a cage, starting a scan and listing channels or cards take memory; no happening of a scan does. Of what a
+//! relay really does the cage has only the card's word.
 #![tactic(auto)]
 
 mod cage;

@@ -1,6 +1,6 @@
 //! Why the cage refuses.
 
-/// Why a card was not taken in. The first that applies is answered.
+/// Why the cage did not take a card. It answers the first that applies.
 #[derive(Clone, Copy, Debug, PartialEq, Eq)]
 pub enum InstallRefusal {
     /// A scan runs.
@@ -20,7 +20,7 @@ pub enum EjectRefusal {
     Out,
 }
 
-/// Why channels may not be closed together. The first that applies is answered.
+/// Why channels may not be closed together. The cage answers the first that applies.
 #[derive(Clone, Copy, Debug, PartialEq, Eq)]
 pub enum CloseRefusal {
     /// The cage has no such channel.

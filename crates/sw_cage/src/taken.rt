@@ -1,4 +1,4 @@
-//! What happens to a running scan, and what the cage tells of it.
+//! What happens to a running scan, and the cage's outcome.
 
 use crate::job::{Job, Ticket};
 use sw_base::LayerName;
@@ -17,14 +17,14 @@ pub enum Happening {
     Elapsed(Ticket),
 }
 
-/// What came of it.
+/// The outcome of a happening.
 #[derive(Drop)]
 pub enum Taken<M: Meter> {
     /// The scan did not take it, and is as it was.
     Ignored,
     /// The scan awaits a trigger now.
     Waits,
-    /// The scan awaits the end of a pause of so many microseconds, under this ticket.
+    /// The scan awaits the end of a pause of this many microseconds, under this ticket.
     Pause(Ticket, u64),
     /// The scan awaits the return of its meter, which is to measure.
     Job(Job<M>),

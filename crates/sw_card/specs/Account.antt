@@ -1,4 +1,4 @@
--- What is seen of a card: its serial number, how often it failed, its relays, and what it measured last.
+-- What contracts see of a card: its serial number, how often it failed, its relays, and what it measured last.
 use Rattle.std.specs.Prelude.{◌≡◌, ℕ, ◌+◌, ◌-◌, ◌%◌, ◌^◌, Bool, true, false, ◌&&◌, nat_lt, List, [], ◌∷◌, Option, None}
 use Rattle.std.specs.Prelude.{Some, slice_index_or, slice_set, is_some, Result, Ok, Err}
 use Rattle.sw_base.specs.declared.reading.Reading.{Reading}

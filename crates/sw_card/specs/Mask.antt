@@ -1,4 +1,4 @@
--- Sets of a card's channels as one number: bit ch - 1 stands for channel ch (own).
+-- Sets of a card's channels as one number: bit ch - 1 is channel ch (own).
 use Rattle.std.specs.Prelude.{◌≡◌, ℕ, ◌-◌, Bool, ◌&&◌, ◌==◌, nat_lt, List, map}
 use Rattle.std.specs.Int.{bit_at}
 use Rattle.std.specs.List.{range_with_len}
@@ -8,7 +8,7 @@ use Rattle.sw_card.specs.Account.{closed_at}
 abbrev pub in_mask : ℕ → ℕ → Bool
 in_mask mask ch = nat_lt 0 ch && (bit_at mask (ch - 1) == 1)
 
--- of each of so many channels, from channel 1 on, whether it is in the set
+-- for each of this many channels, from channel 1 on, whether it is in the set
 abbrev pub states_of : ℕ → ℕ → List Bool
 states_of mask channels = map (in_mask mask) (range_with_len 1 channels)
 

@@ -1,8 +1,8 @@
-//! What every card tells of itself.
+//! What every card says of itself.
 
 ghost use Rattle.std.specs.Prelude.{◌≡◌, ℕ};
 
-/// A card could not do what it was asked.
+/// A card could not do a call.
 #[derive(Clone, Copy, Debug, PartialEq, Eq)]
 pub struct CardFault;
 

@@ -167,7 +167,7 @@ impl<R: Relay, M: Meter> Card<R, M> {
         }
     }
 
-    /// Whether the card can say that its relays stand as its account says; a meter has none.
+    /// Whether the card is sure that its relays are as its account says; a meter has none.
     pub fn is_sure(&self) -> bool
         ensures { result ≡ surety R.sure self.now.0 }
     {

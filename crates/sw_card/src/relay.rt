@@ -20,7 +20,7 @@ pub trait Relay: Board {
 
     ghost closed: { Self → List Bool };
 
-    // Whether the card can say that its relays stand as its account says; a card that can't tell is sure.
+    // Whether the card is sure that its relays are as its account says; a card that has no way to know is sure.
     ghost sure: { Self → Bool } = { λ _. true };
 
     /// How many channels it has.
@@ -36,7 +36,7 @@ pub trait Relay: Board {
     fn is_closed(&self, ch: u8) -> bool
         ensures { result ≡ closed_at (closed self.now) ch };
 
-    /// Whether the card can say that its relays stand as its account says.
+    /// Whether the card is sure that its relays are as its account says.
     fn is_sure(&self) -> bool
         ensures { result ≡ sure self.now };
 

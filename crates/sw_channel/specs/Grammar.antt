@@ -47,7 +47,7 @@ AreJoined mark Part text (w ∷ []) = Part text w
 AreJoined mark Part text (w ∷ v ∷ ws) =
     IsMarkedPair mark (λ t. Part t w) (λ t. AreJoined mark Part t (v ∷ ws)) text
 
--- what stands between `(@` and `)`
+-- the text between `(@` and `)`
 abbrev pub IsBracketed : {I : Type 0} → (List ℕ → I → Type 0) → List ℕ → I → Type 0
 IsBracketed Body text i = (body : List ℕ) × Body body i × (text ≡ 40 ∷ 64 ∷ (body ++ 41 ∷ []))
 

@@ -33,7 +33,7 @@ channel_of (pair s c) =
 
 -- ---- ranges
 
--- the number that stands k places from the first towards the last
+-- the number k places from the first towards the last
 abbrev pub towards : ℕ → ℕ → ℕ → ℕ
 towards first last k = if nat_le first last then first + k else first - k
 
@@ -73,16 +73,16 @@ Spells text cs = (items : List ListItem) × IsList text items × Mean Names item
 
 -- ---- refusals
 
--- what is added to so many entries: none that is right is -222, one too many is -223
+-- the values to add to this many entries: nothing valid is -222, one too many is -223
 abbrev pub fitting : {V : Type 0} → ℕ → Option (List V) → Result (List V) ScpiError
 fitting count None = Err DataOutOfRange
 fitting count (Some vs) = if nat_le (count + length vs) most_entries then Ok vs else Err TooMuchData
 
--- the channels that an item adds to so many, or its refusal
+-- the channels that an item adds to this many, or its refusal
 abbrev pub channels_judged : ℕ → ListItem → Result (List Channel) ScpiError
 channels_judged count i = fitting count (channels_of i)
 
--- the entries in front with those of an item, and what comes of the others
+-- the entries in front with those of an item, and the outcome of the others
 abbrev pub judged_with : {V : Type 0} → List V → Result (List V) ScpiError → (List V → Result (List V) ScpiError)
     → Result (List V) ScpiError
 judged_with front (Err e) rest = Err e

@@ -27,7 +27,7 @@ abbrev pub is_full : ℕ → Position → Bool
 is_full count [] = nat_le most_entries count
 is_full count (c ∷ p) = nat_le most_joined (length (c ∷ p))
 
--- a position with the channel that is written next: -222 for none and for one that it has, else -223 for want of room
+-- a position with the channel that is written next: -222 for none and for one that it has, else -223 for lack of room
 abbrev pub with_next : ℕ → Option Channel → Position → Result Position ScpiError
 with_next count None p = Err DataOutOfRange
 with_next count (Some c) p =
@@ -37,7 +37,7 @@ abbrev pub and_next : ℕ → Result Position ScpiError → Option Channel → R
 and_next count (Err e) chan = Err e
 and_next count (Ok p) chan = with_next count chan p
 
--- the position of the channels after these, in a list of so many positions, or the first refusal from left to right
+-- the position of the channels after these, in a list of this many positions, or the first refusal from left to right
 abbrev pub position_after : ℕ → Result Position ScpiError → List WrittenChannel → Result Position ScpiError
 position_after count r [] = r
 position_after count r (w ∷ ws) = position_after count (and_next count r (channel_of w)) ws
@@ -49,7 +49,7 @@ abbrev pub one_position : Result Position ScpiError → Result (List Position) S
 one_position (Ok p) = Ok (p ∷ [])
 one_position (Err e) = Err e
 
--- the positions that an item adds to so many, or its first refusal
+-- the positions that an item adds to this many, or its first refusal
 abbrev pub positions_judged : ℕ → PositionItem → Result (List Position) ScpiError
 positions_judged count (joined w ws) = one_position (position_of_joined count (w ∷ ws))
 positions_judged count (single_each v w) = fitting count (option_map (map alone) (channels_of (range v w)))

@@ -9,7 +9,7 @@ use Rattle.sw_channel.specs.Meaning.{Names, Mean, judged, channels_judged}
 use Rattle.sw_channel.specs.Positions.{Position}
 use Rattle.sw_channel.specs.PositionMeaning.{NamePositions, positions_judged}
 
--- A kind of list: how it is written, what an item names, and what it adds to so many entries or how it is refused.
+-- A kind of list: how it is written, what an item names, and what it adds to this many entries, or its refusal.
 pub record ListKind (I V : Type 0) : Type 1 where
   pub Written : List ℕ → List I → Type 0
   pub NamesEach : I → List V → Type 0
@@ -34,7 +34,7 @@ abbrev pub IsRefusedAs : {I V : Type 0} → ListKind I V → List ℕ → ScpiEr
 IsRefusedAs {I} {V} kind text e = (IsNoListOf kind text × (e ≡ InvalidExpression))
     ⊎ ((items : List I) × kind.Written text items × (judged kind.judge [] items ≡ Err e))
 
--- The entries that the text spells, at most that many; or its first refusal; or want of memory for such entries.
+-- The entries that the text spells, at most that many; or its first refusal; or lack of memory for such entries.
 abbrev pub ReadsAs : {I V : Type 0} → ListKind I V → List ℕ → Result (List V) ScpiError → Type 0
 ReadsAs kind text (Ok vs) = SpellsAs kind text vs × (length vs ≤ most_entries)
 ReadsAs {I} {V} kind text (Err e) = IsRefusedAs kind text e

@@ -33,7 +33,7 @@ abbrev pub EndsBy : (ℕ → Bool) → List ℕ → Type 0
 EndsBy test [] = Unit {0}
 EndsBy test (b ∷ bytes) = test b ≡ true
 
--- a part at the front of a text, what it means, and what follows it; a part that stands there up to an end is this one
+-- a part at the front of a text, what it means, and what follows it; any part there up to an end is this one
 pub record LeadsPart {W M : Type 0} (Part : List ℕ → W → Type 0) (ends : ℕ → Bool) (Means : W → M → Type 0)
     (text : List ℕ) (meant : M) (rest : List ℕ) : Type 0 where
   pub front : List ℕ
@@ -43,7 +43,7 @@ pub record LeadsPart {W M : Type 0} (Part : List ℕ → W → Type 0) (ends : �
   pub whole : text ≡ front ++ rest
   pub only : (other tail : List ℕ) (w : W) → Part other w → EndsBy ends tail → text ≡ other ++ tail → tail ≡ rest
 
--- no part stands there up to an end
+-- the text begins with no part up to an end
 abbrev pub LeadsNone : {W : Type 0} → (List ℕ → W → Type 0) → (ℕ → Bool) → List ℕ → Type 0
 LeadsNone {W} Part ends text =
     (other tail : List ℕ) (w : W) → Part other w → EndsBy ends tail → text ≡ other ++ tail → ⊥
@@ -72,11 +72,11 @@ MeansSingle item chan = channels_of item ≡ option_map (λ c. c ∷ []) chan
 abbrev pub MeansRun : ListItem → Option Run → Type 0
 MeansRun item run = channels_of item ≡ option_map channels_in run
 
--- joined channels, and the position of them in a list of so many, or their refusal
+-- joined channels, and the position of them in a list of this many, or their refusal
 abbrev pub MeansJoined : ℕ → List WrittenChannel → Result Position ScpiError → Type 0
 MeansJoined count written position = position_of_joined count written ≡ position
 
--- the positions that an entry stands for
+-- the positions of an entry
 abbrev pub positions_in : Entry → List Position
 positions_in (Joined position) = position ∷ []
 positions_in (Range run) = map alone (channels_in run)
@@ -107,7 +107,7 @@ abbrev pub IsFound : {V : Type 0} → Result (Found V) ScpiError → Result (Lis
 IsFound {V} (Ok found) all = (front : List V) × IfOk found.entries (λ v. v.items ≡ front) × (all ≡ Ok front)
 IsFound (Err e) all = all ≡ Err e
 
--- the answer that is due, or want of memory where entries are due
+-- the answer that is due, or lack of memory where entries are due
 abbrev pub AnswersDue : {V : Type 0} → Result (List V) ScpiError → Result (List V) ScpiError → Type 0
 AnswersDue {V} due r = (r ≡ due) ⊎ ((r ≡ Err OutOfMemory) × ((vs : List V) × (due ≡ Ok vs)))
 

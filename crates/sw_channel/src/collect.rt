@@ -1,4 +1,4 @@
-//! From what stands between the brackets of a list to the channels that it names, in one pass.
+//! From the text between the brackets of a list to the channels that it names, in one pass.
 
 ghost use Rattle.std.specs.Prelude.{◌≡◌, ◌≤◌, ◌∷◌, ◌++◌, List, [], Result, IfOk, IfSome, IfNone, Some, Ok, Err};
 ghost use Rattle.std.specs.Result.{result_map_both, ForOk};

@@ -36,7 +36,7 @@ impl Entry {
     }
 }
 
-/// The position of its first channel, in a list that has so many positions.
+/// The position of its first channel, in a list that has `count` positions.
 fn begun(first: Option<Chan>, count: usize) -> Result<Position, ScpiError>
     ensures { result ≡ and_next count (Ok []) first }
 {
@@ -87,7 +87,7 @@ fn read_joined(
     }
 }
 
-/// The entry of a range, in a list that has so many positions.
+/// The entry of a range, in a list that has `count` positions.
 fn range_entry(first: Option<Chan>, last: Option<Chan>, count: usize) -> Result<Entry, ScpiError>
     requires { count ≤ most_entries }
     ensures { (v w : WrittenChannel) → MeansChannel v first → MeansChannel w last
@@ -113,7 +113,7 @@ fn joined_entry(position: Result<Position, ScpiError>) -> Result<Entry, ScpiErro
     Ok(Entry::Joined(position?))
 }
 
-/// What the item at the front names in a list that has so many positions, or its first refusal; and what follows it.
+/// What the item at the front names in a list that has `count` positions, or its first refusal; and what follows it.
 #[inline(never)]
 fn any_entry(text: &[u8], count: usize) -> Option<(Result<Entry, ScpiError>, &[u8])>
     requires { count ≤ most_entries }

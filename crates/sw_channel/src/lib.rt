@@ -2,12 +2,12 @@
 //! entries of a scan, in which channels that are closed together are joined: `(@1!1&2!1,1!2&2!2)`.
 //!
 //! `read_list` answers the channels that a text spells by the grammar of `specs/Grammar.antt`, or the text's first
-//! refusal; `one_reading` is the law that, but for want of memory, there is one such answer. `print_list` writes a text
+//! refusal; `one_reading` is the law that, but for lack of memory, there is one such answer. `print_list` writes a text
 //! that spells its channels, `(@)` for none. `read_positions`, `one_reading_of_positions` and `print_positions` are the
 //! same for lists of positions.
 //!
-//! Whether a channel exists in some cage is no question here. Module and path names, and ranges over several slots, are
-//! refused.
+//! The crate does not ask whether a channel exists in some cage. It refuses module and path names, and ranges over
+//! several slots.
 #![tactic(auto)]
 
 mod collect;

@@ -223,7 +223,7 @@ pub fn short_item(text: &[u8]) -> Option<(Option<Chan>, &[u8])>
     }
 }
 
-/// What stands between the brackets of a list.
+/// The text between the brackets of a list.
 pub fn body_of(text: &[u8]) -> Option<&[u8]>
     ensures found { IfSome result (λ body. text.now ≡ 40 ∷ 64 ∷ (body.now ++ 41 ∷ [])) }
     ensures none { IfNone result ((body : List ℕ) → text.now ≡ 40 ∷ 64 ∷ (body ++ 41 ∷ []) → ⊥) }

@@ -1,4 +1,4 @@
-//! From what stands between the brackets of a list to the positions that it names, in one pass.
+//! From the text between the brackets of a list to the positions that it names, in one pass.
 
 ghost use Rattle.std.specs.Prelude.{◌≡◌, ◌≤◌, ◌∷◌, ◌++◌, List, [], ℕ, Result, IfOk, Ok, Err, map};
 ghost use Rattle.std.specs.Result.{result_map_both, ForOk};

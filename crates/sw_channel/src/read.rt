@@ -23,18 +23,18 @@ use sw_base::{Chan, ScpiError};
 
 /// The channels that a text spells as a channel list, with repeats and in order (SCPI-1999 volume 1, 8.3.2).
 ///
-/// A list is `(@`, items joined by commas, and `)`. An item is a channel, or two of one slot joined by `:`, which
-/// stand for every channel from the first to the second, upwards or downwards. A channel is `slot!channel`, or a plain
-/// number, which is slot times 100 and channel. White space may stand round each number.
+/// A list is `(@`, items joined by commas, and `)`. An item is a channel, or two of one slot joined by `:`, which name
+/// every channel from the first to the second, upwards or downwards. A channel is `slot!channel`, or a plain number,
+/// which is slot times 100 and channel. White space may be round each number.
 ///
-/// The first of these refusals is answered, where there is one:
+/// It answers the first of these refusals, where there is one:
 /// - `InvalidExpression` where any part of the text is no list, and for one of no item;
 /// - then item by item `DataOutOfRange` for a number of more than nine digits, a slot outside 1 to 16, a channel
 ///   outside 1 to 99 or a range over two slots, and `TooMuchData` for a 513th channel.
 ///
 /// `OutOfMemory` comes where a list that has none of these finds no room.
 pub fn read_list(alloc: Global, text: &[u8]) -> Result<Vec<Chan>, ScpiError>
-    // The answer is what the text spells, its first refusal, or want of memory for what it spells.
+    // The answer is what the text spells, its first refusal, or lack of memory for what it spells.
     ensures reads { Reads text.now (result_map_both (λ v. v.items) (λ e. e) result) }
     // What is read is spelled so.
     ensures found { IfOk result (λ v. Spells text.now v.items × (length v.items ≤ most_entries)) }
@@ -64,17 +64,18 @@ fn read(alloc: Global, text: &[u8]) -> Result<Vec<Chan>, ScpiError>
 
 /// The positions that a text spells as a list of positions (this instrument's own), with repeats and in order.
 ///
-/// Such a list is a channel list whose items may also be up to four different channels joined by `&`, with white space
-/// round it: these are one position. Any other channel is a position by itself, and so is each channel of a range.
+/// Such a list is a channel list in which an item may also be up to four different channels joined by `&`, with white
+/// space round it: these are one position. Any other channel is a position by itself, and so is each channel of a
+/// range.
 ///
-/// The first of these refusals is answered, where there is one:
+/// It answers the first of these refusals, where there is one:
 /// - `InvalidExpression` where any part of the text is no such list, as for a range with `&` on either side;
 /// - then channel by channel `DataOutOfRange` for one that `read_list` refuses so, and for one that its position has;
 ///   `TooMuchData` for a position's fifth, and for the first of a 513th position.
 ///
 /// `OutOfMemory` comes where a list that has none of these finds no room.
 pub fn read_positions(alloc: Global, text: &[u8]) -> Result<Vec<Position>, ScpiError>
-    // The answer is what the text spells, its first refusal, or want of memory for what it spells.
+    // The answer is what the text spells, its first refusal, or lack of memory for what it spells.
     ensures reads { ReadsPositions text.now (result_map_both (λ v. v.items) (λ e. e) result) }
     // What is read is spelled so.
     ensures found { IfOk result (λ v. SpellsPositions text.now v.items × (length v.items ≤ most_entries)) }
@@ -102,7 +103,7 @@ fn read_bracketed(alloc: Global, text: &[u8]) -> Result<Vec<Position>, ScpiError
     }
 }
 
-/// A law: but for want of memory there is one answer to a text. No text spells two lists, nor a list of at most 512
+/// A law: but for a lack of memory there is one answer to a text. No text spells two lists, nor a list of at most 512
 /// and a refusal, nor has it two first refusals; and what is refused is refused with any memory.
 pub fn one_reading()
     ensures one { (text : List ℕ) (r s : Result (List Channel) Error) → Reads text r → Reads text s

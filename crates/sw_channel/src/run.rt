@@ -28,7 +28,7 @@ impl Run {
         }
     }
 
-    /// The channel that stands `k` places from the first towards the last.
+    /// The channel `k` places from the first towards the last.
     pub fn channel(&self, k: u8) -> Chan
         requires { k < count_between self.now.first.1 self.now.last.1 }
         ensures { result ≡ (self.now.first.0, towards self.now.first.1 self.now.last.1 k) }

@@ -34,7 +34,7 @@ act (Some (step.Loop k to)) next pc cs =
     if cs k - 1 == 0 then next (pc + 1) (put k 0 cs) else next to (put k (cs k - 1) cs)
 act (Some step.Halt) next pc cs = Some []
 
--- the items that a run passes, if it halts within so many steps
+-- the items that a run passes, if it halts within this number of steps
 abbrev pub exec : List Step → ℕ → Next
 exec code zero pc cs = None
 exec code (suc n) pc cs = act (slice_get code pc) (exec code n) pc cs

@@ -22,7 +22,7 @@ IsNearBy (Some (step.Open c)) near pc = Unit {0}
 IsNearBy (Some (step.Loop k to)) near pc = near (pc + 1) × near to
 IsNearBy (Some step.Halt) near pc = Unit {0}
 
--- from the step of this number on at most so many steps only count before one does more, whichever way the loops go
+-- from the step at pc on at most n steps only count before one does more, whichever way the loops branch
 abbrev pub IsNear : List Step → ℕ → ℕ → Type 0
 IsNear code zero pc = IsNearBy (slice_get code pc) (λ p. ⊥) pc
 IsNear code (suc n) pc = IsNearBy (slice_get code pc) (IsNear code n) pc
@@ -39,7 +39,7 @@ IsNearAfter code n pc (step.Open c) = IsNear code n (pc + 1)
 IsNearAfter code n pc (step.Loop k to) = Unit {0}
 IsNearAfter code n pc step.Halt = Unit {0}
 
--- before the first item, and between two, at most so many steps only count
+-- before the first item, and between two, at most n steps only count
 pub record IsPaced (code : List Step) (n : ℕ) : Type 0 where
   pub start : IsNear code n 0
   pub after : (pc : ℕ) (i : Step) → slice_get code pc ≡ Some i → IsNearAfter code n pc i

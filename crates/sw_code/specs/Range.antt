@@ -32,7 +32,7 @@ IsStep step.Halt = Unit {0}
 abbrev pub IsInChannelRange : Channel → Type 0
 IsInChannelRange c = (1 ≤ c.0) × (c.0 ≤ most_slots) × (1 ≤ c.1) × (c.1 ≤ most_channels)
 
--- a position whose channels are in range
+-- a position with all its channels in range
 pub record IsPositionInRange (p : Position) : Type 0 where
   pub position : IsPosition p
   pub channels : AllByRecursion IsInChannelRange p

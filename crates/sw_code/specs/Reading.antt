@@ -16,14 +16,14 @@ use Rattle.sw_base.specs.declared.terms.ArmLayer.{ArmLayer}
 use Rattle.sw_code.specs.declared.code.Step.{Step}
 use Rattle.sw_code.specs.declared.code.Step.TheVariants as step
 use Rattle.sw_code.specs.declared.fault.ListFault.{ListFault}
-use Rattle.sw_code.specs.declared.fault.ListFault.TheVariants.{BadStep, BadNumber, TooLong}
+use Rattle.sw_code.specs.declared.fault.ListFault.TheVariants.{BadStep, BadNumber, TooLong, NoMemory}
 use Rattle.sw_code.specs.declared.fault.ListError.{ListError}
 use Rattle.sw_code.specs.declared.version.Version.{Version}
 use Rattle.sw_code.specs.Range.{Program, most_steps}
 use Rattle.sw_code.specs.Listing.{layer_word}
 use Rattle.sw_code.specs.Versions.{version_in}
 
--- what stands between the marks, which are one fewer
+-- the parts between the marks; the marks are one fewer
 abbrev pub parts_at : ℕ → List ℕ → List (List ℕ)
 parts_at mark bytes = slice_split (λ b. b == mark) bytes
 
@@ -130,8 +130,8 @@ module _ (v : Version) where
   numbered_step line text = then_read (step_in (parts_at 32 text))
       (λ s. if nat_lt (2 + most_steps) line then Err TooLong else Ok s)
 
-  -- The steps of the lines from that number on. What stands behind the last line feed is the last of the texts; it is a
-  -- line without its line feed, unless it is empty.
+  -- The steps of the lines from that number on. The last of the texts follows the last line feed; it is a line without
+  -- its line feed, unless it is empty.
   abbrev pub steps_in : ℕ → List (List ℕ) → Result (List Step) ListError
   steps_in line [] = Ok []
   steps_in line (last ∷ []) = if length last == 0 then Ok [] else Err (record { line = line; kind = BadStep })
@@ -146,7 +146,7 @@ module _ (v : Version) where
       (λ meter. then_read (steps_in 3 (next ∷ more)) (λ steps. Ok (record { meter = meter; steps = steps })))
   code_after_version _ = Err (record { line = 2; kind = BadStep })
 
--- the version that the first line tells; all the rest is read by it
+-- the version in the first line; the reader reads all the rest by it
 abbrev pub code_of_lines : List (List ℕ) → Result Program ListError
 code_of_lines (text ∷ next ∷ more) =
     then_read (on_line 1 (version_in text)) (λ v. code_after_version v (next ∷ more))
@@ -156,10 +156,17 @@ code_of_lines _ = Err (record { line = 1; kind = BadStep })
 abbrev pub code_in : List ℕ → Result Program ListError
 code_in text = code_of_lines (parts_at 10 text)
 
--- the version that a text is written in, if its first line tells one
+-- the version of a text, if its first line names one
 abbrev pub version_of_lines : List (List ℕ) → Option Version
 version_of_lines (text ∷ next ∷ more) = result_ok (version_in text)
 version_of_lines _ = None
 
 abbrev pub version_of : List ℕ → Option Version
 version_of text = version_of_lines (parts_at 10 text)
+
+-- the name of a fault, as `check` prints it
+abbrev pub fault_name : ListFault → List ℕ
+fault_name BadStep = codes "BadStep"
+fault_name BadNumber = codes "BadNumber"
+fault_name TooLong = codes "TooLong"
+fault_name NoMemory = codes "NoMemory"

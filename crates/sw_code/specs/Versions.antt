@@ -31,7 +31,7 @@ versions = older ++ newest ∷ []
 abbrev pub first_parts : Version → List (List ℕ)
 first_parts v = codes "scan" ∷ decimal v.number ∷ []
 
--- the version among these that a first line tells
+-- the version among these that a first line names
 abbrev pub version_among : List Version → List ℕ → Result Version ListFault
 version_among [] line = Err BadStep
 version_among (v ∷ vs) line =

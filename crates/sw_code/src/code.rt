@@ -1,6 +1,6 @@
 //! Scan code and its steps.
 
-ghost use Rattle.std.specs.Prelude.{◌≡◌, ◌≤◌, length, List};
+ghost use Rattle.std.specs.Prelude.{◌≡◌, ◌≤◌, ◌↔◌, length, List, IfOk, IsTrue};
 ghost use Rattle.std.specs.List.{AllByRecursion};
 ghost use Rattle.sw_base.specs.Limits.{most_slots};
 ghost use Rattle.sw_code.specs.Range.{IsStep, IsProgramInRange, most_steps};
@@ -8,6 +8,7 @@ ghost use Rattle.sw_code.specs.Code.{Unfolds};
 ghost use Rattle.sw_trigger.specs.Agenda.{Item};
 ghost use Rattle.sw_code.specs.declared.code.Step.{Step};
 
+use std::alloc::{AllocError, Global};
 use std::marker::Model;
 use sw_base::LayerName;
 use sw_channel::Position;
@@ -22,9 +23,9 @@ pub enum Step {
     Set(u8, u32),
     /// A trigger for the layer is awaited.
     Wait(LayerName),
-    /// The end of the layer's timer is awaited, so many microseconds, 1 to an hour.
+    /// The scan awaits the end of the layer's timer, of this many microseconds, 1 to an hour.
     Timer(LayerName, u64),
-    /// The end of so many microseconds is awaited, 1 to an hour.
+    /// The scan awaits the end of a pause of this many microseconds, 1 to an hour.
     Pause(u64),
     /// The channels are closed, in order.
     Close(Position),
@@ -78,6 +79,32 @@ impl Code {
         self.meter
     }
 
+    /// A copy of the code.
+    pub fn try_copy(&self, alloc: Global) -> Result<Code, AllocError>
+        ensures { IfOk result (λ copy. copy ≡ self.now) }
+    {
+        let steps = self.steps.as_slice().to_vec(alloc)?;
+        Ok(Code {
+            meter: self.meter,
+            steps,
+        })
+    }
+
+    /// Whether the two have the same meter and the same steps.
+    pub fn is_same(&self, other: &Code) -> bool
+        ensures { IsTrue result ↔ (self.now ≡ other.now) }
+    {
+        if self.meter != other.meter || self.steps.len() != other.steps.len() {
+            return false;
+        }
+        for i in 0..self.steps.len() {
+            if !is_same_step(&self.steps[i], &other.steps[i]) {
+                return false;
+            }
+        }
+        true
+    }
+
     /// Its steps, from number 0 on.
     pub fn steps(&self) -> &[Step]
         ensures steps { result.now ≡ self.now.steps }
@@ -85,6 +112,30 @@ impl Code {
     {
         self.steps.as_slice()
     }
+}
+
+/// Whether the two steps are one.
+fn is_same_step(a: &Step, b: &Step) -> bool
+    ensures { IsTrue result ↔ (a.now ≡ b.now) }
+{
+    match a {
+        Step::Set(k, n) => matches!(b, Step::Set(j, m) if k == j && n == m),
+        Step::Wait(name) => matches!(b, Step::Wait(other) if name == other),
+        Step::Timer(name, n) => matches!(b, Step::Timer(other, m) if name == other && n == m),
+        Step::Pause(n) => matches!(b, Step::Pause(m) if n == m),
+        Step::Close(p) => matches!(b, Step::Close(q) if is_same_position(p, q)),
+        Step::Read => matches!(b, Step::Read),
+        Step::Open(p) => matches!(b, Step::Open(q) if is_same_position(p, q)),
+        Step::Loop(k, to) => matches!(b, Step::Loop(j, at) if k == j && to == at),
+        Step::Halt => matches!(b, Step::Halt),
+    }
+}
+
+/// Whether the two positions have the same channels in the same order.
+fn is_same_position(a: &Position, b: &Position) -> bool
+    ensures { IsTrue result ↔ (a.now ≡ b.now) }
+{
+    a == b
 }
 
 /// A law: steps unfold to one list of items, or to none.

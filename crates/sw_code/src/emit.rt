@@ -16,8 +16,8 @@ use std::alloc::{AllocError, Global};
 use sw_base::{ARM_LAYERS, ARMS, ArmLayer, LayerName, ScpiError, Source};
 use sw_trigger::{Layer, Settings};
 
-/// For how many steps there is room at first, so that a short code takes memory once. These are less than the KiB below
-/// which an allocator hands out again at once what was given back.
+/// The steps that the code has room for at first, so that a short code takes memory once. They are less than the KiB
+/// below which an allocator reuses freed memory at once.
 const ROOM: usize = 40;
 
 /// The code of a scan: one loop for each ARM layer, and one for whole rounds of the list. `OutOfMemory` comes where the
@@ -73,8 +73,8 @@ fn put_arms(
     }
 }
 
-/// Begins the turns of an ARM layer, as a loop that counts with this counter, by what each turn awaits before it goes
-/// on inwards. Answers the number of the step with which a turn begins.
+/// Begins the turns of an ARM layer, as a loop that counts with this counter, by what each turn awaits before the next
+/// layer inwards. Answers the number of the step with which a turn begins.
 #[inline(always)]
 fn begin_turns(
     steps: &mut Vec<Step>,
@@ -161,7 +161,7 @@ fn put_head(steps: &mut Vec<Step>, name: LayerName, layer: Layer) -> Result<(), 
     put_pause(steps, layer.delay_us)
 }
 
-/// Adds a pause of so many microseconds, if it is any.
+/// Adds a pause of `micros` microseconds, unless that is 0.
 #[inline(always)]
 fn put_pause(steps: &mut Vec<Step>, micros: u64) -> Result<(), AllocError>
     ensures pause { OnOk result (steps.new.items ≡ steps.old.items ++ steps_of (map Awaits (pause_of micros))) }

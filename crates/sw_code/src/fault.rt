@@ -1,5 +1,8 @@
 //! What is wrong with a listing.
 
+ghost use Rattle.std.specs.Prelude.{◌≡◌};
+ghost use Rattle.sw_code.specs.Reading.{fault_name};
+
 /// What is wrong with a line of a listing.
 #[derive(Clone, Copy, Debug, PartialEq, Eq)]
 pub enum ListFault {
@@ -12,6 +15,20 @@ pub enum ListFault {
     TooLong,
     /// Memory ran out.
     NoMemory,
+}
+
+impl ListFault {
+    /// Its name.
+    pub fn name(self) -> &'static str
+        ensures { result.now ≡ fault_name self }
+    {
+        match self {
+            ListFault::BadStep => "BadStep",
+            ListFault::BadNumber => "BadNumber",
+            ListFault::TooLong => "TooLong",
+            ListFault::NoMemory => "NoMemory",
+        }
+    }
 }
 
 /// The first fault of a listing: its line, from 1, and what is wrong there.

@@ -15,7 +15,7 @@ use crate::version::Version;
 use sw_base::{ARMS, ArmLayer, CHANNELS, Chan, LayerName, is_digit, split_once};
 use sw_channel::Position;
 
-/// What stands before the first mark, and what follows it; none where there is no mark.
+/// The bytes before the first mark, and those after it; none where there is no mark.
 pub fn first_part(bytes: &[u8], mark: u8) -> Option<(&[u8], &[u8])>
     ensures found { IfSome result (λ x. parts_at mark bytes.now ≡ x.0.now ∷ parts_at mark x.1.now) }
     ensures shorter { IfSome result (λ x. length x.1.now < length bytes.now) }

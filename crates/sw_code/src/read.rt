@@ -16,11 +16,11 @@ use crate::version::{Version, read_version};
 use std::alloc::Global;
 use sw_base::{LONGEST_DELAY, TRIGGER_COUNT};
 
-/// The last line on which a step may stand: the two first lines hold none.
+/// The last line that may have a step: the first two lines have none.
 const LAST_LINE: u32 = 2 + STEPS as u32;
 
-/// The code that a text lists, in the version that its first line tells, or the first fault by line; `NoMemory` where
-/// a step found no room.
+/// The code that a text lists, in the version that its first line names, or the first fault by line; `NoMemory` where a
+/// step found no room.
 #[tactic(auto, using(crate::proofs::Listed::version_some))]
 pub fn read_listing(alloc: Global, text: &[u8]) -> Result<Code, ListError>
     ensures code { IfOk result (λ c. code_in text.now ≡ Ok c) }

@@ -14,7 +14,7 @@ use sw_channel::MOST;
 /// What a version of the listing format has.
 #[derive(Clone, Copy, Debug, PartialEq, Eq)]
 pub struct Version {
-    /// Its number, which the first line tells.
+    /// Its number, which the first line has.
     pub number: u8,
     /// How many slots there are. They are numbered from 1.
     pub slots: u8,
@@ -51,7 +51,7 @@ pub const NEWEST: Version = Version {
     has_timer: true,
 };
 
-/// The version that a text is written in, by its first line; none where that tells none, or has no line feed.
+/// The version of a text, by its first line; none where that names none, or has no line feed.
 #[tactic(auto, using(crate::proofs::Listed::told_some))]
 pub fn listing_version(text: &[u8]) -> Option<Version>
     ensures version { result ≡ version_of text.now }
@@ -61,7 +61,7 @@ pub fn listing_version(text: &[u8]) -> Option<Version>
     read_version(line).ok()
 }
 
-/// The version that a first line tells.
+/// The version that a first line names.
 pub fn read_version(line: &[u8]) -> Result<Version, ListFault>
     ensures version { result ≡ version_in line.now }
     ensures range { IfOk result IsVersion }
@@ -69,7 +69,7 @@ pub fn read_version(line: &[u8]) -> Result<Version, ListFault>
     version_among(&VERSIONS, line)
 }
 
-/// The version among these that a first line tells.
+/// The version among these that a first line names.
 fn version_among(versions: &[Version], line: &[u8]) -> Result<Version, ListFault>
     ensures { result ≡ version_among versions.now line.now }
 {
@@ -81,7 +81,7 @@ fn version_among(versions: &[Version], line: &[u8]) -> Result<Version, ListFault
     Err(ListFault::BadStep)
 }
 
-/// Whether a first line tells this version: `scan` and its number, without leading zeros.
+/// Whether a first line names this version: `scan` and its number, without leading zeros.
 fn tells(line: &[u8], version: Version) -> bool
     ensures { result ≡ bytes_eq line.now (join_with_byte 32 (first_parts version)) }
 {

@@ -5,7 +5,7 @@ use Rattle.sw_base.specs.declared.error.ScpiError.{ScpiError}
 use Rattle.sw_base.specs.declared.error.ScpiError.TheVariants.{SettingsConflict}
 use Rattle.sw_base.specs.declared.reading.Reading.{Reading}
 use Rattle.sw_cage.specs.TakenSeen.{TakenSeen, SaysIgnored, SaysFault, SaysWaits, SaysPause, SaysJob, SaysEnded}
-use Rattle.sw_core.specs.Action.{Effect, TellsText, TellsReadings, ReadsOut, SetsStatus, SetsUp, ClosesListed, OpensListed, TellsHardware, TellsSurety}
+use Rattle.sw_core.specs.Action.{Effect, TellsText, TellsReadings, ReadsOut, SetsStatus, SetsUp, ClosesListed, OpensListed, TellsHardware, TellsSurety, TellsListing}
 use Rattle.sw_core.specs.Action.{Changes}
 use Rattle.sw_core.specs.Action.{Resets, Triggers, RefusesWith, IsOfMacros, Initiates, Action, AtOnce, BetweenScans, AfterScan, action_of}
 use Rattle.sw_core.specs.declared.ask.Sid.{Sid}
@@ -42,7 +42,8 @@ alone_answered (SetsUp Fits error after) p f a q h = absurd h
 alone_answered (ClosesListed chans) p f a q h = absurd h
 alone_answered (OpensListed chans) p f a q h = absurd h
 alone_answered (TellsHardware there text) p f a q h = absurd h
-alone_answered (TellsSurety known) p f a q h = absurd h
+alone_answered (TellsSurety text) p f a q h = absurd h
+alone_answered (TellsListing listing) p f a q h = absurd h
 alone_answered (Changes after) p f a q h = absurd h
 alone_answered Resets p f a q h = absurd h
 alone_answered (RefusesWith error) p f a q h = absurd h

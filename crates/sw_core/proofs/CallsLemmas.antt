@@ -1,16 +1,17 @@
 -- What a call on the cage does to the counts of failures, and to the cards.
 use Rattle.std.proofs.Common.{◌≡◌, ℕ, zero, suc, ◌-◌, ◌<◌, ◌||◌, Bool, true, false, List, [], ◌∷◌, Option, None, Some, slice_set, slice_index_or, refl, sym}
-use Rattle.std.proofs.Common.{◌∙◌, ap, map, is_some, inl, inr, ◌⊎◌}
+use Rattle.std.proofs.Common.{◌∙◌, ap, subst, map, is_some, inl, inr, ◌⊎◌}
 use Rattle.sw_base.specs.Layout.{Channel, slot_at}
 use Rattle.sw_card.specs.Account.{Account}
 use Rattle.sw_cage.specs.Accounts.{Accounts, all_open, is_closed}
-use Rattle.sw_cage.specs.Change.{Sets, IsDisturbed, any_failed, option_failed, identity}
+use Rattle.sw_cage.specs.Change.{Sets, OneFailed, IsDisturbed, any_failed, option_failed, identity}
 use Rattle.sw_cage.proofs.SlotChangeLemmas.{all_open_closed, slot_get}
 use Rattle.std.specs.Prelude.{if◌then◌else◌}
 use Rattle.sw_cage.specs.Cage.{CageSeen, safe_state}
 use Rattle.sw_cage.specs.Cage.{cage_with_cards as cage_with}
 use Rattle.sw_cage.specs.Install.{stopped, without_card}
-use Rattle.sw_cage.proofs.ChannelCallLemmas.{or_false, failed_rest, failed_rest_old, sets_unfailed, identities_all_open}
+use Rattle.sw_cage.proofs.ChannelCallLemmas.{or_false, failed_rest, failed_rest_old, sets_unfailed, identities_all_open, one_rested}
+use Rattle.sw_cage.proofs.FailureLemmas.{one_failed}
 use Rattle.sw_core.specs.Step.{IsFailSafe}
 
 pub failed_same : (r : Accounts) → any_failed r r ≡ false
@@ -25,9 +26,10 @@ failed_sets old new chans on s = sets_unfailed old new s.rest
 -- a failing call, and then every relay opened
 pub fallen : (old mid new : Accounts) (chans : List Channel) → IsDisturbed old chans mid → new ≡ all_open mid → (any_failed old new ≡ true) × IsFailSafe old new
 fallen old mid new chans d e = (
-  ap (λ (r : Accounts). any_failed old r) e ∙ failed_rest old mid ∙ d.failed,
+  ap (λ (r : Accounts). any_failed old r) e ∙ failed_rest old mid ∙ one_failed old mid d.failed,
   record {
     cards = ap (λ (r : Accounts). map identity r) e ∙ identities_all_open mid ∙ d.cards;
+    failed = subst (OneFailed old) (sym e) (one_rested old mid d.failed);
     none = λ c. ap (λ (r : Accounts). is_closed r c) e ∙ all_open_closed mid c;
   },
 )

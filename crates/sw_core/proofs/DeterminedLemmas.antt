@@ -14,9 +14,10 @@ use Rattle.sw_core.specs.Event.{concluded, last_number}
 use Rattle.sw_core.specs.Seen.{WorkSeen, AskSeen, AskSession, AskInstall, AskEject, AskExternal, AskElapsed, AskFinished, AnswerSeen, SaysSession}
 use Rattle.sw_core.specs.Seen.{SaysInstalled, SaysNotInstalled, SaysEjected, SaysNotEjected, SaysFailed, SaysBack, SaysWorn}
 use Rattle.sw_core.specs.Step.{outside_told, StepOutside, IsOut, IsReturned, StepFinished, Acts, acts_unnumbered, IsWorn, IsEvent, IsUnnumbered, Step}
-use Rattle.sw_core.specs.Run.{IsPlain, KeepsKey, says_sure, tells_failure, failures_in, failures_after}
+use Rattle.sw_core.specs.Run.{IsPlain, KeepsKey, tells_failure, failures_in, failures_after}
 use Rattle.sw_base.specs.declared.error.ScpiError.{ScpiError}
 use Rattle.sw_core.specs.declared.ask.SessionAnswer.TheVariants.{Refused}
+use Rattle.sw_core.specs.LeftOpen.{leaves_open}
 use Rattle.sw_core.proofs.FallenLemmas.{step_fell}
 use Rattle.sw_core.proofs.ObeyedLemmas.{failed}
 use Rattle.sw_core.proofs.GoingLemmas.{happens_once, returns_once}
@@ -56,7 +57,7 @@ finished_once p done f f' a a' q q' n m h k = elim (finished_as p done f a q h) 
   ]
 ]
 
-acts_once : (p q q' : Panel) (ask : AskSeen) (f f' : Bool) (a a' : AnswerSeen) → Acts p ask f a q → Acts p ask f' a' q' → IsWhole a → IsWhole a' → says_sure a ≡ says_sure a'
+acts_once : (p q q' : Panel) (ask : AskSeen) (f f' : Bool) (a a' : AnswerSeen) → Acts p ask f a q → Acts p ask f' a' q' → IsWhole a → IsWhole a' → leaves_open p ask a ≡ leaves_open p ask a'
     → KeepsKey p ask a → KeepsKey p ask a' → (a ≡ a') × (q ≡ q')
 acts_once p q q' (AskSession ask) f f' (SaysSession a w) (SaysSession a' w') h k n m s kx ky =
     let r = session_once (asker_of ask) p ask f f' a a' w w' q q' (plain_any a w None n) (plain_any a' w' None m) s kx ky h k in
@@ -78,7 +79,7 @@ acts_once p q q' (AskElapsed ticket) f f' a a' h k n m s kx ky = outside_once p 
 acts_once p q q' (AskFinished done) f f' a a' h k n m s kx ky = finished_once p done f f' a a' q q' n m h k
 acts_once p q q' ask f f' a a' h k n m s kx ky = absurd (assumption (h, k))
 
-event_once : (p q q' : Panel) (ask : AskSeen) (f f' : Bool) (a a' : AnswerSeen) → IsEvent p ask f a q → IsEvent p ask f' a' q' → IsWhole a → IsWhole a' → says_sure a ≡ says_sure a'
+event_once : (p q q' : Panel) (ask : AskSeen) (f f' : Bool) (a a' : AnswerSeen) → IsEvent p ask f a q → IsEvent p ask f' a' q' → IsWhole a → IsWhole a' → leaves_open p ask a ≡ leaves_open p ask a'
     → KeepsKey p ask a → KeepsKey p ask a' → (a ≡ a') × (q ≡ q')
 event_once p q q' ask f f' a a' h k n m s kx ky =
     let r = acts_once p h.done k.done ask f f' a a' h.acts k.acts n m s kx ky in
@@ -94,11 +95,11 @@ worn_once (AskFinished done) SaysWorn SaysWorn h k = refl
 worn_once ask a a' h k = absurd (assumption (h, k))
 
 either_once : (b : Bool) (p q q' : Panel) (ask : AskSeen) (f f' : Bool) (a a' : AnswerSeen) → MatchBool b (IsUnnumbered p ask f a q) (IsEvent p ask f a q)
-    → MatchBool b (IsUnnumbered p ask f' a' q') (IsEvent p ask f' a' q') → IsWhole a → IsWhole a' → says_sure a ≡ says_sure a' → KeepsKey p ask a → KeepsKey p ask a' → (a ≡ a') × (q ≡ q')
+    → MatchBool b (IsUnnumbered p ask f' a' q') (IsEvent p ask f' a' q') → IsWhole a → IsWhole a' → leaves_open p ask a ≡ leaves_open p ask a' → KeepsKey p ask a → KeepsKey p ask a' → (a ≡ a') × (q ≡ q')
 either_once true p q q' ask f f' a a' h k n m s kx ky = (worn_once ask a a' h.worn k.worn, both p q q' h.same k.same)
 either_once false p q q' ask f f' a a' h k n m s kx ky = event_once p q q' ask f f' a a' h k n m s kx ky
 
-step_whole : (p q q' : Panel) (ask : AskSeen) (f f' : Bool) (a a' : AnswerSeen) → Step p ask f a q → Step p ask f' a' q' → IsWhole a → IsWhole a' → says_sure a ≡ says_sure a'
+step_whole : (p q q' : Panel) (ask : AskSeen) (f f' : Bool) (a a' : AnswerSeen) → Step p ask f a q → Step p ask f' a' q' → IsWhole a → IsWhole a' → leaves_open p ask a ≡ leaves_open p ask a'
     → KeepsKey p ask a → KeepsKey p ask a' → (a ≡ a') × (q ≡ q')
 step_whole p q q' ask f f' a a' h k n m s kx ky = either_once ((p.events == last_number) && not (acts_unnumbered ask)) p q q' ask f f' a a' h k n m s kx ky
 
@@ -115,7 +116,7 @@ unfailed : (p q : Panel) (ask : AskSeen) (a : AnswerSeen) → Step p ask false a
 unfailed p q ask a h is = false_is_true (failed p q ask false a is h).0
 
 pub step_once : (p q q' : Panel) (ask : AskSeen) (f f' : Bool) (a a' : AnswerSeen) → Step p ask f a q → Step p ask f' a' q'
-    → failures_after f q.cage.cards ≡ failures_after f' q'.cage.cards → says_sure a ≡ says_sure a' → IsPlain a → IsPlain a' → KeepsKey p ask a → KeepsKey p ask a' → (a ≡ a') × (q ≡ q')
+    → failures_after f q.cage.cards ≡ failures_after f' q'.cage.cards → leaves_open p ask a ≡ leaves_open p ask a' → IsPlain a → IsPlain a' → KeepsKey p ask a → KeepsKey p ask a' → (a ≡ a') × (q ≡ q')
 step_once p q q' ask false false a a' h k same s n m kx ky =
     step_whole p q q' ask false false a a' h k (whole a n (unfailed p q ask a h)) (whole a' m (unfailed p q' ask a' k)) s kx ky
 step_once p q q' ask true true a a' h k same s n m kx ky =

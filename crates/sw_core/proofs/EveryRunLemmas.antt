@@ -6,9 +6,10 @@ use Rattle.sw_base.specs.declared.reading.Reading.{Reading}
 use Rattle.sw_card.specs.declared.board.CardFault.{CardFault}
 use Rattle.sw_lex.specs.declared.command.Command.TheVariants as command
 use Rattle.sw_lex.specs.declared.command.PlainQuery.TheVariants as query
-use Rattle.sw_trigger.specs.Settings.{SettingsSeen}
-use Rattle.sw_verify.specs.Course.{CourseSeen, course_of}
-use Rattle.sw_trigger.specs.Counts.{awaiting, bound_of}
+use Rattle.sw_verify.specs.declared.setup.Setup.{Setup}
+use Rattle.sw_verify.specs.Course.{CourseSeen}
+use Rattle.sw_verify.specs.Setup.{bound_of, course_of}
+use Rattle.sw_trigger.specs.Counts.{awaiting}
 use Rattle.sw_cage.specs.Accounts.{Accounts}
 use Rattle.sw_cage.specs.Cage.{ScanSeen}
 use Rattle.sw_cage.specs.Change.{any_failed}
@@ -69,7 +70,7 @@ bound_admitted : (now : Admission) (p : Panel) (sid : Sid) (available f : Bool) 
     → StepAdmitted now p (Ask.Unit sid (command.Query query.Bound) available) f (Done (Some text)) None q → text ≡ decimal (bound_of q.settings)
 bound_admitted Dropped p sid available f text q h = absurd h
 bound_admitted ShutOut p sid available f text q h = absurd h
-bound_admitted Admitted p sid available f text q h = h.0.1 ∙ ap (λ (s : SettingsSeen). decimal (bound_of s)) (sym (ap (λ (x : Panel). x.settings) h.0.2))
+bound_admitted Admitted p sid available f text q h = h.0.1 ∙ ap (λ (s : Setup). decimal (bound_of s)) (sym (ap (λ (x : Panel). x.settings) h.0.2))
 
 bound_either : (b : Bool) (p : Panel) (sid : Sid) (available f : Bool) (text : List ℕ) (q : Panel)
     → MatchBool b (IsUnnumbered p (AskSession (Ask.Unit sid (command.Query query.Bound) available)) f (SaysSession (Done (Some text)) None) q)
@@ -79,7 +80,7 @@ bound_either true p sid available f text q h = absurd h.worn
 bound_either false p sid available f text q h =
     let ask = Ask.Unit sid (command.Query query.Bound) available in
     bound_admitted (admission p sid ask) p sid available f text h.done h.acts.1
-    ∙ ap (λ (s : SettingsSeen). decimal (bound_of s)) (sym (ap (λ (x : Panel). x.settings) h.after))
+    ∙ ap (λ (s : Setup). decimal (bound_of s)) (sym (ap (λ (x : Panel). x.settings) h.after))
 
 bound_step : (p q : Panel) (ask : AskSeen) (f : Bool) (answer : AnswerSeen) (sid : Sid) (available : Bool) (text : List ℕ)
     → ask ≡ AskSession (Ask.Unit sid (command.Query query.Bound) available) → answer ≡ SaysSession (Done (Some text)) None → Step p ask f answer q

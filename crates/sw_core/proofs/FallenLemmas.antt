@@ -11,8 +11,9 @@ use Rattle.sw_base.specs.declared.error.ScpiError.TheVariants.{OutOfMemory, Trig
 use Rattle.sw_card.specs.Account.{Account, none_closed}
 use Rattle.sw_card.specs.declared.board.CardFault.{CardFault}
 use Rattle.sw_status.specs.StatusModel.{StatusSeen}
-use Rattle.sw_trigger.specs.Settings.{SettingsSeen}
-use Rattle.sw_verify.specs.Course.{CourseSeen, course_of}
+use Rattle.sw_verify.specs.declared.setup.Setup.{Setup}
+use Rattle.sw_verify.specs.Course.{CourseSeen}
+use Rattle.sw_verify.specs.Setup.{course_of}
 use Rattle.sw_verify.specs.declared.snapshot.Snapshot.{Snapshot}
 use Rattle.sw_cage.specs.Accounts.{Accounts, is_closed, all_open, option_rest}
 use Rattle.sw_cage.specs.Change.{identity}
@@ -34,14 +35,14 @@ use Rattle.sw_core.specs.declared.ask.SessionAnswer.TheVariants as Answer
 use Rattle.sw_core.specs.declared.ask.SessionAnswer.TheVariants.{Joined, Full, Stranger, Broken, Done, Refused, Hold}
 use Rattle.sw_core.specs.Panel.{Panel, with_cards, is_running}
 use Rattle.sw_core.specs.Registers.{card_fault_reported}
-use Rattle.sw_core.specs.Action.{Effect, TellsText, TellsReadings, ReadsOut, SetsStatus, SetsUp, ClosesListed, OpensListed, TellsHardware, TellsSurety}
+use Rattle.sw_core.specs.Action.{Effect, TellsText, TellsReadings, ReadsOut, SetsStatus, SetsUp, ClosesListed, OpensListed, TellsHardware, TellsSurety, TellsListing}
 use Rattle.sw_core.specs.Action.{Changes}
 use Rattle.sw_core.specs.Action.{Resets, reset, Triggers, RefusesWith, IsOfMacros, Initiates, Action, AtOnce, BetweenScans, AfterScan, action_of}
 use Rattle.sw_core.specs.Seats.{asker_of}
 use Rattle.sw_core.specs.Event.{concluded, ended, erred, last_number}
 use Rattle.sw_core.specs.Seen.{WorkSeen, AskSeen, AskSession, AskInstall, AskEject, AskExternal, AskElapsed, AskFinished, AnswerSeen, SaysSession}
 use Rattle.sw_core.specs.Seen.{SaysInstalled, SaysNotInstalled, SaysEjected, SaysNotEjected, SaysFailed, SaysBack}
-use Rattle.sw_core.specs.Step.{IsFailSafe, StepClose, StepOpen, StepHardware, StepSurety, StepText, StepDone, StepSetting, StepRefused, StepReadings, StepAlone}
+use Rattle.sw_core.specs.Step.{FailsSafe, StepClose, StepOpen, StepHardware, StepSurety, StepListing, StepText, StepDone, StepSetting, StepRefused, StepReadings, StepAlone}
 use Rattle.sw_core.specs.Step.{Happens, StepHappens, StepEffect, StepHeld, StepAction, StepSnapshot, IsStarted, Starts, StepStart, StepJoined}
 use Rattle.sw_core.specs.Step.{session_told, work_of, started_answer, outside_told, acts_unnumbered, IsEvent, IsUnnumbered, Step}
 use Rattle.sw_core.specs.Step.{StepAdmitted, StepNew, StepJoin, StepAttach, StepSession, StepOutside, Returns, IsReturned, StepFinished, Acts}
@@ -84,13 +85,18 @@ same_rest (o ∷ r) (n ∷ s) e f =
     let rest = same_rest r s is cs in
     cc
 
-fallen_rack : (old r s : Accounts) → IsFailSafe old r → IsFailSafe old s → map failures_in r ≡ map failures_in s → r ≡ s
+-- the same cards but for their counts of failures, and every relay open
+pub record IsOpened (old new : Accounts) : Type 0 where
+  pub cards : map identity new ≡ map identity old
+  pub none : (c : Channel) → is_closed new c ≡ false
+
+fallen_rack : (old r s : Accounts) → IsOpened old r → IsOpened old s → map failures_in r ≡ map failures_in s → r ≡ s
 fallen_rack old r s h k e = same_rack r s (same_rest r s (h.cards ∙ sym k.cards) e) (λ c. h.none c ∙ sym (k.none c))
 
 -- ---- what a step in which a card failed leaves: all but the cards is known
 
 abbrev pub Falls : Panel → Panel → Type 0
-Falls base q = IsFailSafe base.cage.cards q.cage.cards × (q ≡ with_cards base q.cage.cards)
+Falls base q = IsOpened base.cage.cards q.cage.cards × (q ≡ with_cards base q.cage.cards)
 
 pub falls_once : (base q q' : Panel) → Falls base q → Falls base q' → map failures_in q.cage.cards ≡ map failures_in q'.cage.cards → q ≡ q'
 falls_once base q q' h k e =
@@ -104,7 +110,7 @@ abbrev cut : Panel → CageSeen → Panel
 cut p cage = record p { cage = record cage { scan = None }; status = card_fault_reported p.status }
 
 fallen_cage : (c d : CageSeen) (s : CourseSeen) (i : ℕ) → Advances c s i SaysFault d
-    → IsFailSafe c.cards d.cards × (d ≡ record c { cards = d.cards; scan = None })
+    → IsOpened c.cards d.cards × (d ≡ record c { cards = d.cards; scan = None })
 fallen_cage c d s i h =
     let bays : occupancy_of d ≡ occupancy_of (record c { cards = d.cards; scan = None }) =
     ap (λ (o : List (Option Ticket)). let r : Occupancy = record { cards = d.cards; out = o } in r) h.runs.out in (
@@ -112,12 +118,12 @@ fallen_cage c d s i h =
       same_cage d (record c { cards = d.cards; scan = None }) bays h.number h.runs.over h.readings,
     )
 
-fallen_past : (c d : CageSeen) (at : Option ScanSeen) → AdvancesPastFrom c at SaysFault d → IsFailSafe c.cards d.cards
+fallen_past : (c d : CageSeen) (at : Option ScanSeen) → AdvancesPastFrom c at SaysFault d → IsOpened c.cards d.cards
     × (d ≡ record c { cards = d.cards; scan = None })
 fallen_past c d None h = absurd h
 fallen_past c d (Some at) h = fallen_cage c d at.course (at.index + 1) h
 
-cut_falls : (p q : Panel) (c : CageSeen) → IsFailSafe c.cards q.cage.cards → q.cage ≡ record c { cards = q.cage.cards; scan = None }
+cut_falls : (p q : Panel) (c : CageSeen) → IsOpened c.cards q.cage.cards → q.cage ≡ record c { cards = q.cage.cards; scan = None }
     → q ≡ record p { cage = q.cage; status = card_fault_reported p.status } → Falls (cut p c) q
 cut_falls p q c safe is e = (safe, e ∙ ap (λ (x : CageSeen). let r : Panel = record p { cage = x; status = card_fault_reported p.status } in r) is)
 
@@ -147,7 +153,7 @@ no_done : (after : Panel) (a : SessionAnswer) (q : Panel) → StepDone after tru
 no_done after (Done None) q h = true_is_false h.0
 no_done after a q h = absurd h
 
-no_setting : (p : Panel) (Fits : Type 0) (error : ScpiError) (setup : SettingsSeen) (a : SessionAnswer) (q : Panel) → StepSetting p Fits error setup true a q
+no_setting : (p : Panel) (Fits : Type 0) (error : ScpiError) (setup : Setup) (a : SessionAnswer) (q : Panel) → StepSetting p Fits error setup true a q
     → ⊥
 no_setting p Fits error setup (Done None) q h = true_is_false h.0
 no_setting p Fits error setup (Refused e) q h = true_is_false h.0
@@ -167,24 +173,32 @@ no_hardware p there text (Refused HardwareMissing) q h = true_is_false h.0
 no_hardware p there text (Refused OutOfMemory) q h = true_is_false h.0
 no_hardware p there text a q h = absurd h
 
-no_surety : (p : Panel) (known : Option (List ℕ)) (a : SessionAnswer) (q : Panel) → StepSurety p known true a q → ⊥
-no_surety p known (Done (Some t)) q h = true_is_false h.0
-no_surety p known a q h = absurd h
+no_surety : (p : Panel) (text : Bool → List ℕ) (a : SessionAnswer) (q : Panel) → StepSurety p text true a q → ⊥
+no_surety p text (Done (Some t)) q h = true_is_false h.0
+no_surety p text a q h = absurd h
+
+no_listing : (p : Panel) (listing : List ℕ) (a : SessionAnswer) (q : Panel) → StepListing p listing true a q → ⊥
+no_listing p listing (Done (Some t)) q h = true_is_false h.0
+no_listing p listing (Refused OutOfMemory) q h = true_is_false h.0
+no_listing p listing a q h = absurd h
 
 abbrev IsAloneFall : Panel → SessionAnswer → Panel → Type 0
 IsAloneFall p a q = (a ≡ Refused HardwareError) × Falls (reported p) q
+
+safe_falls : (p q : Panel) → FailsSafe p q → Falls (reported p) q
+safe_falls p q h = (record { cards = h.0.cards; none = h.0.none }, h.1)
 
 told_close : (p : Panel) (chans : List Channel) (a : SessionAnswer) (q : Panel) → StepClose p chans true a q → IsAloneFall p a q
 told_close p chans (Done None) q h = true_is_false h.0
 told_close p chans (Refused HardwareMissing) q h = true_is_false h.0
 told_close p chans (Refused SettingsConflict) q h = true_is_false h.0
-told_close p chans (Refused HardwareError) q h = (refl, h.2)
+told_close p chans (Refused HardwareError) q h = (refl, safe_falls p q h.2)
 told_close p chans a q h = absurd h
 
 told_open : (p : Panel) (chans : List Channel) (a : SessionAnswer) (q : Panel) → StepOpen p chans true a q → IsAloneFall p a q
 told_open p chans (Done None) q h = true_is_false h.0
 told_open p chans (Refused HardwareMissing) q h = true_is_false h.0
-told_open p chans (Refused HardwareError) q h = (refl, h.2)
+told_open p chans (Refused HardwareError) q h = (refl, safe_falls p q h.2)
 told_open p chans a q h = absurd h
 
 told_alone : (d : Effect) (p : Panel) (a : SessionAnswer) (q : Panel) → StepAlone d p true a q → IsAloneFall p a q
@@ -192,11 +206,12 @@ told_alone (TellsText text) p a q h = absurd (no_text p (text p) p.status a q h)
 told_alone (TellsReadings readings) p a q h = absurd (no_readings (readings p) p a q h)
 told_alone (ReadsOut text after) p a q h = absurd (no_text p (text p.status) (after p.status) a q h)
 told_alone (SetsStatus after) p a q h = absurd (no_done (record p { status = after p.status }) a q h)
-told_alone (SetsUp Fits error after) p a q h = absurd (no_setting p Fits error (after p.settings) a q h)
+told_alone (SetsUp Fits error after) p a q h = absurd (no_setting p (Fits p.settings) error (after p.settings) a q h)
 told_alone (ClosesListed chans) p a q h = told_close p chans a q h
 told_alone (OpensListed chans) p a q h = told_open p chans a q h
 told_alone (TellsHardware there text) p a q h = absurd (no_hardware p (there p) (text p) a q h)
-told_alone (TellsSurety known) p a q h = absurd (no_surety p (known p) a q h)
+told_alone (TellsSurety text) p a q h = absurd (no_surety p (text p) a q h)
+told_alone (TellsListing listing) p a q h = absurd (no_listing p listing a q h)
 told_alone (Changes after) p a q h = absurd (no_done (after p) a q h)
 told_alone Resets p a q h = absurd (no_done (reset p) a q h)
 told_alone (RefusesWith error) p a q h = absurd (no_refused p error a q h)
@@ -339,7 +354,7 @@ fallen_return c (Ok r) = with_reading c r
 fallen_return c (Err e) = c
 
 fallen_counts : (c d : CageSeen) (outcome : Result Reading CardFault) → Counts c outcome SaysFault d
-    → IsFailSafe (fallen_return c outcome).cards d.cards × (d ≡ record (fallen_return c outcome) { cards = d.cards; scan = None })
+    → IsOpened (fallen_return c outcome).cards d.cards × (d ≡ record (fallen_return c outcome) { cards = d.cards; scan = None })
 fallen_counts c d (Ok r) h = fallen_past (with_reading c r) d c.scan h
 fallen_counts c d (Err e) h =
     let is : d.cards ≡ all_open c.cards = ap (λ (x : CageSeen). x.cards) h.1 in (

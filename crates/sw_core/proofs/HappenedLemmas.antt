@@ -2,7 +2,7 @@
 use Rattle.std.proofs.Common.{subst, ◌≡◌, Option, None, Some, refl, sym, ◌∙◌, ap, Result, Ok, Err, inl, inr}
 use Rattle.std.specs.Prelude.{if◌then◌else◌}
 use Rattle.sw_status.specs.StatusModel.{StatusSeen}
-use Rattle.sw_verify.specs.Course.{course_of}
+use Rattle.sw_verify.specs.Setup.{course_of}
 use Rattle.sw_cage.specs.Change.{any_failed}
 use Rattle.sw_cage.specs.Cage.{ScanSeen, CageSeen}
 use Rattle.sw_base.specs.declared.error.ScpiError.{ScpiError}
@@ -11,7 +11,7 @@ use Rattle.sw_core.specs.declared.ask.SessionAnswer.TheVariants.{Refused}
 use Rattle.sw_base.specs.declared.reading.Reading.{Reading}
 use Rattle.sw_card.specs.declared.board.CardFault.{CardFault}
 use Rattle.sw_verify.specs.declared.snapshot.Snapshot.{Snapshot}
-use Rattle.sw_verify.specs.Check.{IsReady}
+use Rattle.sw_verify.specs.Ready.{IsReady}
 use Rattle.sw_cage.specs.Work.{FinishedSeen}
 use Rattle.sw_cage.specs.Outcome.{Advances, AdvancesPast, AdvancesPastFrom, Counts, begun, with_back, with_reading}
 use Rattle.sw_cage.specs.Takes.{Takes, TakesReturn}

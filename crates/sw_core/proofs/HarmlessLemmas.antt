@@ -7,23 +7,26 @@ use Rattle.sw_base.specs.declared.error.ScpiError.TheVariants.{TriggerIgnored, A
 use Rattle.sw_base.specs.declared.error.ScpiError.TheVariants.{SettingsConflict, HardwareError}
 use Rattle.sw_lex.specs.declared.command.Command.{Command}
 use Rattle.sw_lex.specs.declared.command.Plain.{Plain}
+use Rattle.sw_lex.specs.declared.command.GroupQuery.{GroupQuery}
 use Rattle.sw_lex.specs.declared.command.SlotQuery.{SlotQuery}
 use Rattle.sw_lex.specs.declared.command.StatusRead.{StatusRead}
 use Rattle.sw_lex.specs.declared.command.Channels.{Channels}
 use Rattle.sw_lex.specs.declared.command.Time.{Time}
 use Rattle.sw_lex.specs.declared.command.Setting.{Setting}
 use Rattle.sw_lex.specs.declared.command.StatusSetting.{StatusSetting}
-use Rattle.sw_trigger.specs.Settings.{SettingsSeen, IsInRange}
+use Rattle.sw_trigger.specs.Settings.{IsInRange}
+use Rattle.sw_verify.specs.declared.setup.Setup.{Setup}
 use Rattle.sw_trigger.proofs.Ranges.{layer_range, range_layer}
 use Rattle.sw_status.specs.StatusModel.{StatusSeen, IsStatus, registers_of, with_group}
 use Rattle.sw_cage.specs.Accounts.{all_open}
-use Rattle.sw_verify.specs.Course.{CourseSeen, course_of}
+use Rattle.sw_verify.specs.Course.{CourseSeen}
+use Rattle.sw_verify.specs.Setup.{course_of}
 use Rattle.sw_cage.specs.Cage.{CageSeen, ScanSeen, safe_state}
 use Rattle.sw_cage.specs.Good.{IsRunning}
 use Rattle.sw_cage.proofs.SlotChangeLemmas.{is_none, all_open_closed, exclusive_none}
 use Rattle.sw_cage.proofs.ChannelCallLemmas.{identities_all_open}
 use Rattle.sw_core.specs.Panel.{Panel, is_running}
-use Rattle.sw_core.specs.Action.{Effect, TellsText, TellsReadings, ReadsOut, SetsStatus, SetsUp, ClosesListed, OpensListed, TellsHardware, TellsSurety}
+use Rattle.sw_core.specs.Action.{Effect, TellsText, TellsReadings, ReadsOut, SetsStatus, SetsUp, ClosesListed, OpensListed, TellsHardware, TellsSurety, TellsListing}
 use Rattle.sw_core.specs.Action.{Changes}
 use Rattle.sw_core.specs.Action.{Resets, Triggers, RefusesWith, IsOfMacros, Initiates, Action, AtOnce, BetweenScans, AfterScan, action_of}
 use Rattle.sw_core.specs.Action.{Fits, misfit, with_value, with_bits, without_read, ignored_at}
@@ -39,7 +42,7 @@ use Rattle.sw_core.specs.Registers.{card_fault_reported, card_fault_cleared}
 -- what stays so of the mainframe, between its events too
 pub record IsFine (p : Panel) : Type 0 where
   pub cage : IsKept p.cage
-  pub range : IsInRange p.settings
+  pub range : IsInRange p.settings.scan
   pub settings : IfSome p.cage.scan (λ at. at.course ≡ course_of p.settings)
   pub status : IsStatus p.status
 
@@ -47,7 +50,7 @@ pub record IsFine (p : Panel) : Type 0 where
 abbrev pub KeepsTo : Option ScanSeen → CourseSeen → Type 0
 KeepsTo scan course = IfSome scan (λ at. at.course ≡ course)
 
-abbrev pub GoesBy : Option ScanSeen → SettingsSeen → Type 0
+abbrev pub GoesBy : Option ScanSeen → Setup → Type 0
 GoesBy scan s = KeepsTo scan (course_of s)
 
 pub by_none : (scan : Option ScanSeen) (course : CourseSeen) → scan ≡ None → KeepsTo scan course
@@ -56,8 +59,8 @@ by_none scan course e = subst (λ (o : Option ScanSeen). KeepsTo o course) (sym 
 pub fine_as : (p q : Panel) → q.cage ≡ p.cage → q.settings ≡ p.settings → IsStatus q.status → IsFine p → IsFine q
 fine_as p q c s u k = record {
   cage = subst (λ (x : CageSeen). IsKept x) (sym c) k.cage;
-  range = subst (λ (x : SettingsSeen). IsInRange x) (sym s) k.range;
-  settings = subst (λ (x : CageSeen). GoesBy x.scan q.settings) (sym c) (subst (λ (x : SettingsSeen). GoesBy p.cage.scan x) (sym s) k.settings);
+  range = subst (λ (x : Setup). IsInRange x.scan) (sym s) k.range;
+  settings = subst (λ (x : CageSeen). GoesBy x.scan q.settings) (sym c) (subst (λ (x : Setup). GoesBy p.cage.scan x) (sym s) k.settings);
   status = u;
 }
 
@@ -125,11 +128,12 @@ IsHarmless p (TellsText text) = Unit {0}
 IsHarmless p (TellsReadings readings) = Unit {0}
 IsHarmless p (ReadsOut text after) = IsStatus p.status → IsStatus (after p.status)
 IsHarmless p (SetsStatus after) = IsStatus p.status → IsStatus (after p.status)
-IsHarmless p (SetsUp Fits error after) = (Fits → IsInRange p.settings → IsInRange (after p.settings)) × (error ≢ HardwareError) × (is_running p ≡ false)
+IsHarmless p (SetsUp Fits error after) = (Fits p.settings → IsInRange p.settings.scan → IsInRange (after p.settings).scan) × (error ≢ HardwareError) × (is_running p ≡ false)
 IsHarmless p (ClosesListed chans) = is_running p ≡ false
 IsHarmless p (OpensListed chans) = is_running p ≡ false
 IsHarmless p (TellsHardware there text) = Unit {0}
-IsHarmless p (TellsSurety known) = Unit {0}
+IsHarmless p (TellsSurety text) = Unit {0}
+IsHarmless p (TellsListing listing) = Unit {0}
 IsHarmless p (Changes after) = IsFine p → IsFine (after p)
 IsHarmless p Resets = Unit {0}
 IsHarmless p (Triggers happening error) = error ≢ HardwareError
@@ -143,19 +147,19 @@ IsHarmlessAction p (BetweenScans effect) = is_running p ≡ false → IsHarmless
 IsHarmlessAction p (AfterScan effect) = IsHarmless p effect
 
 -- the values that a setting has are in range
-ranged : (setting : Setting) (s : SettingsSeen) → Fits setting → IsInRange s → IsInRange (with_value setting s)
+ranged : (setting : Setting) (s : Setup) → Fits setting s → IsInRange s.scan → IsInRange (with_value setting s).scan
 ranged (Setting.Count layer n) s fits r =
-    range_layer s layer _ r (record { count = fits; delay = (layer_range s layer r).delay; timer = (layer_range s layer r).timer })
+    range_layer s.scan layer _ r (record { count = fits; delay = (layer_range s.scan layer r).delay; timer = (layer_range s.scan layer r).timer })
 ranged (Setting.Source layer source) s fits r =
-    range_layer s layer _ r (record {
-      count = (layer_range s layer r).count;
-      delay = (layer_range s layer r).delay;
-      timer = (layer_range s layer r).timer;
+    range_layer s.scan layer _ r (record {
+      count = (layer_range s.scan layer r).count;
+      delay = (layer_range s.scan layer r).delay;
+      timer = (layer_range s.scan layer r).timer;
     })
 ranged (Setting.Time Time.Delay layer micros) s fits r =
-    range_layer s layer _ r (record { count = (layer_range s layer r).count; delay = fits; timer = (layer_range s layer r).timer })
+    range_layer s.scan layer _ r (record { count = (layer_range s.scan layer r).count; delay = fits; timer = (layer_range s.scan layer r).timer })
 ranged (Setting.Time Time.Timer layer micros) s fits r =
-    range_layer s layer _ r (record { count = (layer_range s layer r).count; delay = (layer_range s layer r).delay; timer = fits })
+    range_layer s.scan layer _ r (record { count = (layer_range s.scan layer r).count; delay = (layer_range s.scan layer r).delay; timer = fits })
 ranged (Setting.Time Time.Settling layer micros) s fits r =
     record { layers = r.layers; arms = r.arms; trigger = r.trigger; list = r.list; meter = r.meter; points = r.points; settle = fits }
 ranged (Setting.Scan positions) s fits r =
@@ -164,9 +168,13 @@ ranged (Setting.ScanMeter slot) s fits r =
     record { layers = r.layers; arms = r.arms; trigger = r.trigger; list = r.list; meter = fits; points = r.points; settle = r.settle }
 ranged (Setting.Points n) s fits r =
     record { layers = r.layers; arms = r.arms; trigger = r.trigger; list = r.list; meter = r.meter; points = fits; settle = r.settle }
+ranged (Setting.Program code) s fits r = r
+ranged (Setting.Programmed on) s fits r = r
+ranged Setting.NoProgram s fits r = r
 
 no_fault : (setting : Setting) → misfit setting ≢ HardwareError
 no_fault (Setting.Scan positions) = too_much
+no_fault (Setting.Programmed on) = conflict
 no_fault setting = out_of_range
 
 not_ignored : (layer : LayerName) → ignored_at layer ≢ HardwareError
@@ -209,7 +217,11 @@ harmless p available (Command.Plain Plain.Fetch) = tt
 harmless p available (Command.Plain Plain.Read) = tt
 harmless p available (Command.Query query) = tt
 harmless p available (Command.LayerQuery query layer) = tt
-harmless p available (Command.GroupQuery query group) = tt
+harmless p available (Command.GroupQuery GroupQuery.Condition StatusGroup.Operation) = tt
+harmless p available (Command.GroupQuery GroupQuery.Condition StatusGroup.Questionable) = tt
+harmless p available (Command.GroupQuery GroupQuery.Enable group) = tt
+harmless p available (Command.GroupQuery GroupQuery.PositiveTransition group) = tt
+harmless p available (Command.GroupQuery GroupQuery.NegativeTransition group) = tt
 harmless p available (Command.SlotQuery SlotQuery.Kind slot) = tt
 harmless p available (Command.SlotQuery SlotQuery.Groups slot) = tt
 harmless p available (Command.SlotQuery SlotQuery.State slot) = tt
@@ -222,6 +234,7 @@ harmless p available (Command.Channels Channels.CloseQuery chans) = tt
 harmless p available (Command.Channels Channels.CloseCheck chans) = tt
 harmless p available (Command.Channels Channels.Open chans) = λ idle. idle
 harmless p available (Command.Channels Channels.OpenQuery chans) = tt
+harmless p available (Command.ListingCheck listing) = tt
 harmless p available (Command.Set setting) = λ idle. (λ fits r. ranged setting p.settings fits r, no_fault setting, idle)
 harmless p available (Command.SetStatus setting) = λ u. bits_fine setting p.status u
 harmless p available (Command.Macros ask) = tt

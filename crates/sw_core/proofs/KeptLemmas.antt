@@ -8,13 +8,17 @@ use Rattle.sw_card.specs.declared.board.CardFault.{CardFault}
 use Rattle.sw_card.specs.Account.{Account, of_meter, is_meter}
 use Rattle.sw_trigger.specs.declared.layer.Awaited.{Awaited}
 use Rattle.sw_trigger.specs.declared.layer.Awaited.TheVariants.{Wait, Period, Pause, Read}
-use Rattle.sw_trigger.specs.Settings.{SettingsSeen, IsInRange}
+use Rattle.sw_trigger.specs.Settings.{IsInRange}
+use Rattle.sw_verify.specs.declared.setup.Setup.{Setup}
 use Rattle.sw_trigger.specs.Agenda.{Item}
 use Rattle.sw_trigger.specs.Counts.{reads}
-use Rattle.sw_verify.specs.Check.{IsReady}
+use Rattle.sw_verify.specs.Ready.{IsReady}
 use Rattle.sw_verify.specs.Channels.{Channels, none}
 use Rattle.sw_verify.specs.Sound.{AllRight, effect}
-use Rattle.sw_verify.specs.Course.{CourseSeen, course_of}
+use Rattle.sw_verify.specs.Course.{CourseSeen}
+use Rattle.sw_verify.specs.Setup.{meter_of, course_of}
+use Rattle.sw_verify.proofs.ReadyLemmas.{ready_measured, ready_sound}
+use Rattle.sw_core.proofs.SetupLemmas.{ready_meter}
 use Rattle.sw_verify.specs.declared.snapshot.Snapshot.{Snapshot}
 use Rattle.sw_verify.proofs.Throughout.{exclusive_throughout}
 use Rattle.sw_cage.specs.Accounts.{Accounts, layout_of, slot_contents, is_closed, all_open}
@@ -274,9 +278,10 @@ inside c k x h =
     let ch : (1 ≤ x.1) × (x.1 ≤ most_channels) = few_bounds (slot_at c.cards x.0) x.1 (k.few x.0) (sym (present_at c.cards x) ∙ present) in
     (omega (arith, slot.0), omega (arith, slot.1, k.good.held.slots), ch.0, ch.1)
 
-pub kept_begun : (c q : CageSeen) (s : SettingsSeen) (plan : Snapshot) (told : TakenSeen) → IsKept c → slot_at c.out s.meter ≡ None → IsInRange s → IsReady plan
+pub kept_begun : (c q : CageSeen) (s : Setup) (plan : Snapshot) (told : TakenSeen) → IsKept c → slot_at c.out (meter_of s) ≡ None → IsInRange s.scan → IsReady plan
     → plan ≡ record { settings = s; layout = cage_layout c; closed = closed_list c.cards } → Advances (begun c) (course_of s) 0 told q → IsKept q
 kept_begun c q s plan told k home range ready is h =
-    let sure : IsReady (record { settings = s; layout = cage_layout c; closed = closed_list c.cards }) = subst (λ (x : Snapshot). IsReady x) is ready in
-    let x = begins c (course_of s) (c.number + 1) [] k.good.held range.meter home sure.measured sure.sound (inside c k) refl refl in
+    let here : Snapshot = record { settings = s; layout = cage_layout c; closed = closed_list c.cards } in
+    let sure : IsReady here = subst (λ (x : Snapshot). IsReady x) is ready in
+    let x = begins c (course_of s) (c.number + 1) [] k.good.held (ready_meter here range sure) home (ready_measured here sure) (ready_sound here sure) (inside c k) refl refl in
     kept_goes (begun c) q (course_of s) 0 told (record { held = x.held; go = x.go; safe = k.safe; few = k.few }) h

@@ -1,3 +1,4 @@
+pub mod SetupLemmas
 mod RowsLemmas
 mod HardwareLemmas
 mod CallsLemmas
@@ -36,3 +37,4 @@ mod ScanToldLemmas
 mod SlotsToldLemmas
 mod EveryRunLemmas
 mod GoingOnLemmas
+mod ListingCheckLemmas

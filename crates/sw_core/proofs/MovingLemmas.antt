@@ -11,7 +11,7 @@ use Rattle.sw_cage.specs.Accounts.{is_closed}
 use Rattle.sw_cage.specs.Cage.{ScanSeen, CageSeen, safe_state}
 use Rattle.sw_cage.specs.Install.{stopped}
 use Rattle.sw_cage.specs.Good.{IsHeld}
-use Rattle.sw_verify.specs.Course.{course_of}
+use Rattle.sw_verify.specs.Setup.{course_of}
 use Rattle.sw_cage.specs.Advance.{moves_from, next_place}
 use Rattle.sw_cage.specs.Work.{FinishedSeen}
 use Rattle.sw_cage.specs.TakenSeen.{TakenSeen, SaysIgnored, SaysWaits, SaysPause, SaysJob, SaysEnded, SaysFault}

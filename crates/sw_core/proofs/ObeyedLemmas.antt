@@ -34,7 +34,7 @@ use Rattle.sw_core.specs.declared.ask.SessionAsk.TheVariants as Ask
 use Rattle.sw_core.specs.declared.ask.SessionAnswer.{SessionAnswer}
 use Rattle.sw_core.specs.declared.ask.SessionAnswer.TheVariants.{Done, Refused}
 use Rattle.sw_core.specs.Panel.{Panel, is_running}
-use Rattle.sw_core.specs.Action.{Effect, TellsText, TellsReadings, ReadsOut, SetsStatus, SetsUp, ClosesListed, OpensListed, TellsHardware, TellsSurety}
+use Rattle.sw_core.specs.Action.{Effect, TellsText, TellsReadings, ReadsOut, SetsStatus, SetsUp, ClosesListed, OpensListed, TellsHardware, TellsSurety, TellsListing}
 use Rattle.sw_core.specs.Action.{Changes}
 use Rattle.sw_core.specs.Action.{Resets, Triggers, RefusesWith, IsOfMacros, Initiates, Action, AtOnce, BetweenScans, AfterScan, action_of}
 use Rattle.sw_core.specs.Registers.{card_fault_reported}
@@ -42,7 +42,7 @@ use Rattle.sw_core.specs.Event.{ended, erred, last_number}
 use Rattle.sw_core.specs.Seen.{WorkSeen, AskSeen, AskSession, AskInstall, AskEject, AskExternal, AskElapsed, AskFinished, AnswerSeen, SaysSession, SaysEjected}
 use Rattle.sw_core.specs.Seen.{SaysFailed}
 use Rattle.sw_core.specs.Seats.{asker_of}
-use Rattle.sw_core.specs.Step.{FailsSafe, StepClose, StepOpen, StepHardware, StepText, StepRefused, StepReadings, StepAlone, StepEffect, StepHeld, StepAction}
+use Rattle.sw_core.specs.Step.{FailsSafe, StepClose, StepOpen, StepHardware, StepListing, StepText, StepRefused, StepReadings, StepAlone, StepEffect, StepHeld, StepAction}
 use Rattle.sw_core.specs.Step.{StepOutside, Returns, Happens, session_told, StepSnapshot, StepStart, started_answer, Starts, outside_told, StepJoined}
 use Rattle.sw_core.specs.Step.{StepAdmitted, StepNew, StepSession, Acts, acts_unnumbered, IsWorn, IsEvent, IsUnnumbered, Step}
 use Rattle.sw_core.specs.Step.{Admission, Dropped, ShutOut, Admitted, admission}
@@ -176,6 +176,10 @@ hardware_quiet p there text f HardwareMissing q h = h.2
 hardware_quiet p there text f OutOfMemory q h = h.2
 hardware_quiet p there text f e q h = absurd h
 
+listing_quiet : (p : Panel) (listing : List ℕ) (f : Bool) (e : ScpiError) (q : Panel) → StepListing p listing f (Refused e) q → q ≡ p
+listing_quiet p listing f OutOfMemory q h = h.1
+listing_quiet p listing f e q h = absurd h
+
 text_quiet : (p : Panel) (text : List ℕ) (status : StatusSeen) (f : Bool) (e : ScpiError) (q : Panel) → StepText p text status f (Refused e) q → q ≡ p
 text_quiet p text status f OutOfMemory q h = h.1
 text_quiet p text status f e q h = absurd h
@@ -193,7 +197,8 @@ alone_quiet (SetsUp Fits error after) p f e q h n = h.3
 alone_quiet (ClosesListed chans) p f e q h n = close_quiet p chans f e q h n
 alone_quiet (OpensListed chans) p f e q h n = open_quiet p chans f e q h n
 alone_quiet (TellsHardware there text) p f e q h n = hardware_quiet p (there p) (text p) f e q h
-alone_quiet (TellsSurety known) p f e q h n = absurd h
+alone_quiet (TellsSurety text) p f e q h n = absurd h
+alone_quiet (TellsListing listing) p f e q h n = listing_quiet p listing f e q h
 alone_quiet (Changes after) p f e q h n = absurd h
 alone_quiet Resets p f e q h n = absurd h
 alone_quiet (RefusesWith error) p f e q h n = h.2
@@ -324,7 +329,8 @@ alone_down (SetsUp Fits error after) p f q n h = absurd (n.1 (sym h.2))
 alone_down (ClosesListed chans) p f q n h = falls_down p f q h.0 n h.2
 alone_down (OpensListed chans) p f q n h = falls_down p f q h.0 n h.2
 alone_down (TellsHardware there text) p f q n h = absurd h
-alone_down (TellsSurety known) p f q n h = absurd h
+alone_down (TellsSurety text) p f q n h = absurd h
+alone_down (TellsListing listing) p f q n h = absurd h
 alone_down (Changes after) p f q n h = absurd h
 alone_down Resets p f q n h = absurd h
 alone_down (RefusesWith error) p f q n h = absurd (n (sym h.1))

@@ -7,20 +7,21 @@ use Rattle.sw_base.specs.declared.error.ScpiError.TheVariants.{OutOfMemory}
 use Rattle.std.specs.List.{join_with_byte}
 use Rattle.sw_base.specs.Reading.{reading_text}
 use Rattle.sw_base.specs.declared.reading.Reading.{Reading}
-use Rattle.sw_trigger.specs.Settings.{SettingsSeen}
+use Rattle.sw_verify.specs.declared.setup.Setup.{Setup}
 use Rattle.sw_status.specs.StatusModel.{StatusSeen}
 use Rattle.sw_cage.specs.Accounts.{Accounts}
 use Rattle.sw_cage.specs.Change.{Sets}
 use Rattle.sw_core.specs.declared.ask.SessionAnswer.{SessionAnswer}
 use Rattle.sw_core.specs.declared.ask.SessionAnswer.TheVariants.{Done, Refused}
 use Rattle.sw_core.specs.Panel.{Panel, with_cards}
-use Rattle.sw_core.specs.SlotTexts.{surety_word, tells_surety}
-use Rattle.sw_core.specs.Action.{Effect, TellsText, TellsReadings, ReadsOut, SetsStatus, SetsUp, ClosesListed, OpensListed, TellsHardware, TellsSurety}
+use Rattle.sw_core.specs.LeftOpen.{left_open}
+use Rattle.sw_core.specs.Action.{Effect, TellsText, TellsReadings, ReadsOut, SetsStatus, SetsUp, ClosesListed, OpensListed, TellsHardware, TellsSurety, TellsListing}
 use Rattle.sw_core.specs.Action.{Changes}
 use Rattle.sw_core.specs.Action.{Resets, reset, Triggers, RefusesWith, IsOfMacros, Initiates}
 use Rattle.sw_core.specs.Seen.{AnswerSeen, SaysSession, SaysFailed}
 use Rattle.sw_lex.specs.Apart.{same_word}
-use Rattle.sw_core.specs.Step.{IsSurety, StepClose, StepOpen, StepHardware, StepSurety, StepText, StepDone, StepSetting, StepRefused, StepReadings, StepAlone}
+use Rattle.sw_lex.proofs.ApartLemmas.{same_word-refl, same_eq}
+use Rattle.sw_core.specs.Step.{IsSurety, StepClose, StepOpen, StepHardware, StepSurety, StepListing, StepText, StepDone, StepSetting, StepRefused, StepReadings, StepAlone}
 use Rattle.sw_core.proofs.SameLemmas.{sets_once}
 
 -- an answer that tells of no want of memory and of no card's failure
@@ -91,7 +92,7 @@ pub done_once : (after : Panel) (f f' : Bool) (a a' : SessionAnswer) (q q' : Pan
 done_once after f f' (Done None) (Done None) q q' h k = (refl, both after q q' h.1 k.1)
 done_once after f f' a a' q q' h k = absurd (assumption (h, k))
 
-pub setting_once : (p : Panel) (Fits : Type 0) (error : ScpiError) (setup : SettingsSeen) (f f' : Bool) (a a' : SessionAnswer) (q q' : Panel)
+pub setting_once : (p : Panel) (Fits : Type 0) (error : ScpiError) (setup : Setup) (f f' : Bool) (a a' : SessionAnswer) (q q' : Panel)
     → StepSetting p Fits error setup f a q → StepSetting p Fits error setup f' a' q' → IsOnce a a' q q'
 setting_once p Fits error setup f f' (Done None) (Done None) q q' h k = (refl, h.2 ∙ sym k.2)
 setting_once p Fits error setup f f' (Done None) (Refused e) q q' h k = absurd (k.1 h.1)
@@ -109,39 +110,48 @@ pub readings_once : (l : List Reading) (p : Panel) (f f' : Bool) (a a' : Session
 readings_once [] p f f' a a' q q' n m h k = refused_once p DataCorruptOrStale f f' a a' q q' h k
 readings_once (r ∷ rs) p f f' a a' q q' n m h k = text_once p (join_with_byte 44 (map reading_text (r ∷ rs))) p.status f f' a a' q q' n m h k
 
--- one of a card's words is told where it says that it is sure, the other where it doesn't
-word_once : (sure sure' : Bool) → same_word (surety_word sure) (surety_word true) ≡ same_word (surety_word sure') (surety_word true) → sure ≡ sure'
-word_once true true e = refl
-word_once false false e = refl
-word_once true false e = absurd (cc e)
-word_once false true e = absurd (cc e)
+-- one text is told where the cards say that they are sure, the other where they don't
+sure_once : (text : Bool → List ℕ) (sure sure' : Bool) → same_word (text sure) (text true) ≡ same_word (text sure') (text true) → text sure ≡ text sure'
+sure_once text true true e = refl
+sure_once text false false e = refl
+sure_once text true false e = sym (same_eq (text false) (text true) (sym e ∙ same_word-refl (text true)))
+sure_once text false true e = same_eq (text false) (text true) (e ∙ same_word-refl (text true))
 
-word_is : (t : List ℕ) (sure : Bool) → t ≡ surety_word sure → same_word t (surety_word true) ≡ same_word (surety_word sure) (surety_word true)
-word_is t sure e = ap (λ (x : List ℕ). same_word x (surety_word true)) e
+word_is : (text : Bool → List ℕ) (t : List ℕ) (sure : Bool) → t ≡ text sure → same_word t (text true) ≡ same_word (text sure) (text true)
+word_is text t sure e = ap (λ (x : List ℕ). same_word x (text true)) e
 
-known_once : (known : Option (List ℕ)) (t t' : List ℕ) → IsSurety known t → IsSurety known t' → same_word t (surety_word true) ≡ same_word t' (surety_word true)
-    → t ≡ t'
-known_once (Some text) t t' h k s = h ∙ sym k
-known_once None t t' h k s =
-    h.1 ∙ ap surety_word (word_once h.0 k.0 (sym (word_is t h.0 h.1) ∙ s ∙ word_is t' k.0 k.1)) ∙ sym k.1
+told_once : (text : Bool → List ℕ) (t t' : List ℕ) → IsSurety text t → IsSurety text t' → same_word t (text true) ≡ same_word t' (text true) → t ≡ t'
+told_once text t t' h k s =
+    h.1 ∙ sure_once text h.0 k.0 (sym (word_is text t h.0 h.1) ∙ s ∙ word_is text t' k.0 k.1) ∙ sym k.1
 
-pub surety_once : (p : Panel) (known : Option (List ℕ)) (f f' : Bool) (a a' : SessionAnswer) (q q' : Panel) → tells_surety a ≡ tells_surety a'
-    → StepSurety p known f a q → StepSurety p known f' a' q' → IsOnce a a' q q'
-surety_once p known f f' (Done (Some t)) (Done (Some t')) q q' s h k =
-    (ap (λ (y : List ℕ). Done (Some y)) (known_once known t t' h.1 k.1 s), both p q q' h.2 k.2)
-surety_once p known f f' a a' q q' s h k = absurd (assumption (h, k))
+pub surety_once : (p : Panel) (text : Panel → Bool → List ℕ) (f f' : Bool) (a a' : SessionAnswer) (q q' : Panel)
+    → left_open (TellsSurety text) p a ≡ left_open (TellsSurety text) p a' → StepSurety p (text p) f a q → StepSurety p (text p) f' a' q' → IsOnce a a' q q'
+surety_once p text f f' (Done (Some t)) (Done (Some t')) q q' s h k =
+    (ap (λ (y : List ℕ). Done (Some y)) (told_once (text p) t t' h.1 k.1 (cc (s))), both p q q' h.2 k.2)
+surety_once p text f f' a a' q q' s h k = absurd (assumption (h, k))
+
+-- what is said of a listing is given; where memory suffices, it is said
+pub listing_once : (p : Panel) (listing : List ℕ) (f f' : Bool) (a a' : SessionAnswer) (q q' : Panel) → IsWhole (SaysSession a None)
+    → IsWhole (SaysSession a' None) → left_open (TellsListing listing) p a ≡ left_open (TellsListing listing) p a' → StepListing p listing f a q
+    → StepListing p listing f' a' q' → IsOnce a a' q q'
+listing_once p listing f f' (Done (Some t)) (Done (Some t')) q q' n m s h k =
+    let e : t ≡ t' = cc (s) in (ap (λ (y : List ℕ). Done (Some y)) e, both p q q' h.2 k.2)
+listing_once p listing f f' (Refused OutOfMemory) a' q q' n m s h k = absurd (n.0 refl)
+listing_once p listing f f' a (Refused OutOfMemory) q q' n m s h k = absurd (m.0 refl)
+listing_once p listing f f' a a' q q' n m s h k = absurd (assumption (h, k))
 
 pub alone_once : (e : Effect) (p : Panel) (f f' : Bool) (a a' : SessionAnswer) (q q' : Panel)
-    → IsWhole (SaysSession a None) → IsWhole (SaysSession a' None) → tells_surety a ≡ tells_surety a' → StepAlone e p f a q → StepAlone e p f' a' q' → IsOnce a a' q q'
+    → IsWhole (SaysSession a None) → IsWhole (SaysSession a' None) → left_open e p a ≡ left_open e p a' → StepAlone e p f a q → StepAlone e p f' a' q' → IsOnce a a' q q'
 alone_once (TellsText text) p f f' a a' q q' n m s h k = text_once p (text p) p.status f f' a a' q q' n m h k
 alone_once (TellsReadings readings) p f f' a a' q q' n m s h k = readings_once (readings p) p f f' a a' q q' n m h k
 alone_once (ReadsOut text after) p f f' a a' q q' n m s h k = text_once p (text p.status) (after p.status) f f' a a' q q' n m h k
 alone_once (SetsStatus after) p f f' a a' q q' n m s h k = done_once (record p { status = after p.status }) f f' a a' q q' h k
-alone_once (SetsUp Fits error after) p f f' a a' q q' n m s h k = setting_once p Fits error (after p.settings) f f' a a' q q' h k
+alone_once (SetsUp Fits error after) p f f' a a' q q' n m s h k = setting_once p (Fits p.settings) error (after p.settings) f f' a a' q q' h k
 alone_once (ClosesListed chans) p f f' a a' q q' n m s h k = close_once p chans f f' a a' q q' n m h k
 alone_once (OpensListed chans) p f f' a a' q q' n m s h k = open_once p chans f f' a a' q q' n m h k
 alone_once (TellsHardware there text) p f f' a a' q q' n m s h k = hardware_once p (there p) (text p) f f' a a' q q' n m h k
-alone_once (TellsSurety known) p f f' a a' q q' n m s h k = surety_once p (known p) f f' a a' q q' s h k
+alone_once (TellsSurety text) p f f' a a' q q' n m s h k = surety_once p text f f' a a' q q' s h k
+alone_once (TellsListing listing) p f f' a a' q q' n m s h k = listing_once p listing f f' a a' q q' n m s h k
 alone_once (Changes after) p f f' a a' q q' n m s h k = done_once (after p) f f' a a' q q' h k
 alone_once Resets p f f' a a' q q' n m s h k = done_once (reset p) f f' a a' q q' h k
 alone_once (RefusesWith error) p f f' a a' q q' n m s h k = refused_once p error f f' a a' q q' h k

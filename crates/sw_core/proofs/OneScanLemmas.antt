@@ -17,7 +17,7 @@ use Rattle.sw_core.specs.Seen.{WorkSeen, SaysSession}
 use Rattle.sw_core.specs.Step.{StepRefused, StepEffect, StepHeld, StepAction}
 use Rattle.sw_core.specs.Step.{session_told, work_of, started_answer, StepHappens, RefusesScan, MayScan, snapshot_of, StepSnapshot, IsStarted, StepStart}
 use Rattle.sw_core.proofs.GoingLemmas.{happens_once, starts_once}
-use Rattle.sw_core.specs.SlotTexts.{tells_surety}
+use Rattle.sw_core.specs.LeftOpen.{effect_of, left_open}
 use Rattle.sw_core.proofs.OneCommandLemmas.{IsWhole, IsOnce, both, true_false, refused_once, alone_once}
 
 abbrev pub IsAlike : SessionAnswer → SessionAnswer → Option WorkSeen → Option WorkSeen → Panel → Panel → Type 0
@@ -43,7 +43,7 @@ happening_once p happening error f f' a a' w w' q q' n m h k =
     (h.answer_is ∙ ap (λ (x : TakenSeen). session_told error x) r.0 ∙ sym k.answer_is, h.work_is ∙ ap (λ (x : TakenSeen). work_of x) r.0 ∙ sym k.work_is, r.1)
 
 pub effect_once : (e : Effect) (p : Panel) (f f' : Bool) (a a' : SessionAnswer) (w w' : Option WorkSeen) (q q' : Panel)
-    → IsWhole (SaysSession a None) → IsWhole (SaysSession a' None) → tells_surety a ≡ tells_surety a' → StepEffect e p f a w q → StepEffect e p f' a' w' q' → IsAlike a a' w w' q q'
+    → IsWhole (SaysSession a None) → IsWhole (SaysSession a' None) → left_open e p a ≡ left_open e p a' → StepEffect e p f a w q → StepEffect e p f' a' w' q' → IsAlike a a' w w' q q'
 effect_once (Triggers happening error) p f f' a a' w w' q q' n m s h k = happening_once p happening error f f' a a' w w' q q' n m h k
 effect_once e p f f' a a' w w' q q' n m s h k =
     let r = alone_once e p f f' a a' q q' n m s h.0 k.0 in
@@ -62,7 +62,7 @@ either_alike true A B A' B' a a' w w' q q' x y h k = x h k
 either_alike false A B A' B' a a' w w' q q' x y h k = y h k
 
 pub action_once : (x : Action) (p : Panel) (ask : SessionAsk) (f f' : Bool) (a a' : SessionAnswer) (w w' : Option WorkSeen) (q q' : Panel)
-    → IsWhole (SaysSession a None) → IsWhole (SaysSession a' None) → tells_surety a ≡ tells_surety a' → StepAction x p ask f a w q → StepAction x p ask f' a' w' q' → IsAlike a a' w w' q q'
+    → IsWhole (SaysSession a None) → IsWhole (SaysSession a' None) → left_open (effect_of x) p a ≡ left_open (effect_of x) p a' → StepAction x p ask f a w q → StepAction x p ask f' a' w' q' → IsAlike a a' w w' q q'
 action_once (AtOnce e) p ask f f' a a' w w' q q' n m s h k = effect_once e p f f' a a' w w' q q' n m s h k
 action_once (BetweenScans e) p ask f f' a a' w w' q q' n m s h k =
     either_alike (is_running p) (λ a w q. StepRefused p SettingsConflict f a q × (w ≡ None)) (λ a w q. StepEffect e p f a w q)

@@ -19,7 +19,7 @@ use Rattle.sw_core.specs.Seen.{WorkSeen, SaysSession}
 use Rattle.sw_core.specs.Step.{StepAdmitted, StepAttach, StepNew, IsServed}
 use Rattle.sw_core.specs.Step.{StepJoin, StepJoined, StepSession}
 use Rattle.sw_core.specs.Step.{Admission, Dropped, ShutOut, Admitted, admission}
-use Rattle.sw_core.specs.SlotTexts.{tells_surety}
+use Rattle.sw_core.specs.LeftOpen.{answer_leaves}
 use Rattle.sw_core.proofs.OneCommandLemmas.{IsWhole, both}
 use Rattle.sw_core.proofs.OneScanLemmas.{IsAlike, happening_once, held_once, action_once, snapshot_once, start_once}
 
@@ -67,7 +67,7 @@ fault_none p sid e f (Done None) w q h = h
 fault_none p sid e f a w q h = h
 
 pub joined_once : (p : Panel) (ask : SessionAsk) (f f' : Bool) (a a' : SessionAnswer) (w w' : Option WorkSeen) (q q' : Panel) → IsWhole (SaysSession a None)
-    → IsWhole (SaysSession a' None) → tells_surety a ≡ tells_surety a' → FindsKey p.sessions ask a → FindsKey p.sessions ask a' → StepJoined p ask f a w q → StepJoined p ask f' a' w' q'
+    → IsWhole (SaysSession a' None) → answer_leaves p ask a ≡ answer_leaves p ask a' → FindsKey p.sessions ask a → FindsKey p.sessions ask a' → StepJoined p ask f a w q → StepJoined p ask f' a' w' q'
     → IsAlike a a' w w' q q'
 joined_once p (Ask.Fault sid e) f f' a a' None None q q' n m s x y h k = fault_once p sid e f f' a a' q q' h k
 joined_once p (Ask.Fault sid e) f f' a a' (Some w) w' q q' n m s x y h k = absurd (fault_none p sid e f a w q h)
@@ -91,7 +91,7 @@ joined_once p (Ask.Attach number) f f' a a' None None q q' n m s x y h k = serve
 joined_once p ask f f' a a' w w' q q' n m s x y h k = absurd (assumption (h, k))
 
 pub admitted_once : (now : Admission) (p : Panel) (ask : SessionAsk) (f f' : Bool) (a a' : SessionAnswer) (w w' : Option WorkSeen) (q q' : Panel)
-    → IsWhole (SaysSession a None) → IsWhole (SaysSession a' None) → tells_surety a ≡ tells_surety a' → FindsKey p.sessions ask a → FindsKey p.sessions ask a' → StepAdmitted now p ask f a w q
+    → IsWhole (SaysSession a None) → IsWhole (SaysSession a' None) → answer_leaves p ask a ≡ answer_leaves p ask a' → FindsKey p.sessions ask a → FindsKey p.sessions ask a' → StepAdmitted now p ask f a w q
     → StepAdmitted now p ask f' a' w' q' → IsAlike a a' w w' q q'
 admitted_once Dropped p ask f f' Broken Broken None None q q' n m s x y h k = (refl, refl, both p q q' h.1 k.1)
 admitted_once Dropped p ask f f' a a' w w' q q' n m s x y h k = absurd (assumption (h, k))
@@ -129,7 +129,7 @@ session_as p sid ask f Stranger None q h = inl (h.1, refl, refl, h.2)
 session_as p sid ask f a w q h = inr h
 
 pub session_once : (o : Option Sid) (p : Panel) (ask : SessionAsk) (f f' : Bool) (a a' : SessionAnswer) (w w' : Option WorkSeen) (q q' : Panel)
-    → IsWhole (SaysSession a None) → IsWhole (SaysSession a' None) → tells_surety a ≡ tells_surety a' → FindsKey p.sessions ask a → FindsKey p.sessions ask a' → StepSession o p ask f a w q
+    → IsWhole (SaysSession a None) → IsWhole (SaysSession a' None) → answer_leaves p ask a ≡ answer_leaves p ask a' → FindsKey p.sessions ask a → FindsKey p.sessions ask a' → StepSession o p ask f a w q
     → StepSession o p ask f' a' w' q' → IsAlike a a' w w' q q'
 session_once None p ask f f' a a' w w' q q' n m s kx ky h k = new_once p ask f f' a a' w w' q q' h k
 session_once (Some sid) p ask f f' a a' w w' q q' n m s kx ky h k = elim (session_as p sid ask f a w q h) [

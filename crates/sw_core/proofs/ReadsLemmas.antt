@@ -7,7 +7,7 @@ use Rattle.std.specs.List.{join_with_byte}
 use Rattle.sw_base.specs.Reading.{reading_text}
 use Rattle.sw_base.specs.declared.reading.Reading.{Reading}
 use Rattle.sw_lex.specs.declared.command.Command.TheVariants as command
-use Rattle.sw_trigger.specs.Counts.{readings_of}
+use Rattle.sw_verify.specs.Setup.{readings_of}
 use Rattle.sw_verify.specs.declared.snapshot.Snapshot.{Snapshot}
 use Rattle.sw_cage.specs.Cage.{CageSeen}
 use Rattle.sw_core.specs.declared.ask.Sid.{Sid}

@@ -12,7 +12,9 @@ use Rattle.sw_base.specs.declared.error.ScpiError.{ScpiError}
 use Rattle.sw_base.specs.declared.error.ScpiError.TheVariants.{UndefinedHeader, DataCorruptOrStale}
 use Rattle.sw_base.specs.declared.error.ScpiError.TheVariants.{HardwareMissing, SettingsConflict, HardwareError, OutOfMemory}
 use Rattle.sw_card.specs.Account.{Account, closed_at}
-use Rattle.sw_trigger.specs.Settings.{SettingsSeen, IsInRange}
+use Rattle.sw_trigger.specs.Settings.{IsInRange}
+use Rattle.sw_verify.specs.declared.setup.Setup.{Setup}
+use Rattle.sw_verify.specs.Setup.{meter_of}
 use Rattle.sw_verify.specs.declared.snapshot.Snapshot.{Snapshot}
 use Rattle.sw_status.specs.StatusModel.{StatusSeen, IsStatus, pushed}
 use Rattle.sw_cage.specs.Accounts.{Accounts, layout_of, is_closed, option_closed, all_open, option_rest}
@@ -37,14 +39,14 @@ use Rattle.sw_core.specs.declared.ask.SessionAnswer.{SessionAnswer}
 use Rattle.sw_core.specs.declared.ask.SessionAnswer.TheVariants as answers
 use Rattle.sw_core.specs.declared.ask.SessionAnswer.TheVariants.{Joined, Full, Stranger, Broken, Done, Refused, Hold, Worn}
 use Rattle.sw_core.specs.Panel.{Panel, opening_at, with_cards, is_running}
-use Rattle.sw_core.specs.Action.{Effect, TellsText, TellsReadings, ReadsOut, SetsStatus, SetsUp, ClosesListed, OpensListed, TellsHardware, TellsSurety}
+use Rattle.sw_core.specs.Action.{Effect, TellsText, TellsReadings, ReadsOut, SetsStatus, SetsUp, ClosesListed, OpensListed, TellsHardware, TellsSurety, TellsListing}
 use Rattle.sw_core.specs.Action.{Changes}
 use Rattle.sw_core.specs.Action.{Resets, reset, Triggers, RefusesWith, IsOfMacros, Initiates, Action, AtOnce, BetweenScans, AfterScan, action_of}
 use Rattle.sw_core.specs.Event.{concluded, session_concluded, last_number}
 use Rattle.sw_core.specs.Seen.{WorkSeen, AskSeen, AskSession, AskInstall, AskEject, AskExternal, AskElapsed, AskFinished, AnswerSeen, SaysSession}
 use Rattle.sw_core.specs.Seen.{SaysInstalled, SaysNotInstalled, SaysEjected, SaysNotEjected, SaysTaken, SaysMissed, SaysFailed, SaysBack, SaysWorn}
 use Rattle.sw_core.specs.Seats.{asker_of}
-use Rattle.sw_core.specs.Step.{FailsSafe, StepClose, StepOpen, StepHardware, StepSurety, StepText, StepDone, StepSetting, StepRefused, StepReadings, StepAlone, StepEffect}
+use Rattle.sw_core.specs.Step.{FailsSafe, StepClose, StepOpen, StepHardware, StepSurety, StepListing, StepText, StepDone, StepSetting, StepRefused, StepReadings, StepAlone, StepEffect}
 use Rattle.sw_core.specs.Step.{StepHeld, StepAction}
 use Rattle.sw_core.specs.Step.{Happens, MayScan, StepSnapshot, Starts, StepStart, StepJoin, StepAttach, StepNew, IsServed, StepJoined, StepAdmitted}
 use Rattle.sw_core.specs.Step.{StepSession, StepOutside, IsOut, Returns, StepFinished, Acts, acts_unnumbered, IsEvent, IsUnnumbered, Step}
@@ -56,7 +58,8 @@ use Rattle.sw_core.proofs.KeptLemmas.{IsKept, few_set, kept_rack, kept_past, kep
 use Rattle.std.proofs.Common.{Result, Ok, Err, ◌+◌}
 use Rattle.sw_card.specs.declared.board.CardFault.{CardFault}
 use Rattle.sw_base.specs.declared.terms.StatusGroup.TheVariants.{Operation}
-use Rattle.sw_verify.specs.Course.{CourseSeen, course_of}
+use Rattle.sw_verify.specs.Course.{CourseSeen}
+use Rattle.sw_verify.specs.Setup.{course_of}
 use Rattle.sw_cage.specs.Advance.{next_place}
 use Rattle.sw_cage.specs.TakenSeen.{tells_fault}
 use Rattle.sw_cage.specs.Outcome.{Advances, AdvancesPastFrom, Counts, with_reading, begun}
@@ -125,9 +128,14 @@ hardware_fine p there text f (Refused HardwareMissing) q k h = fine_is p q h.2 k
 hardware_fine p there text f (Refused OutOfMemory) q k h = fine_is p q h.2 k
 hardware_fine p there text f a q k h = absurd h
 
-surety_fine : (p : Panel) (known : Option (List ℕ)) (f : Bool) (a : SessionAnswer) (q : Panel) → IsFine p → StepSurety p known f a q → IsFine q
-surety_fine p known f (Done (Some t)) q k h = fine_is p q h.2 k
-surety_fine p known f a q k h = absurd h
+surety_fine : (p : Panel) (text : Bool → List ℕ) (f : Bool) (a : SessionAnswer) (q : Panel) → IsFine p → StepSurety p text f a q → IsFine q
+surety_fine p text f (Done (Some t)) q k h = fine_is p q h.2 k
+surety_fine p text f a q k h = absurd h
+
+listing_fine : (p : Panel) (listing : List ℕ) (f : Bool) (a : SessionAnswer) (q : Panel) → IsFine p → StepListing p listing f a q → IsFine q
+listing_fine p listing f (Done (Some t)) q k h = fine_is p q h.2 k
+listing_fine p listing f (Refused OutOfMemory) q k h = fine_is p q h.1 k
+listing_fine p listing f a q k h = absurd h
 
 text_fine : (p : Panel) (text : List ℕ) (status : StatusSeen) (f : Bool) (a : SessionAnswer) (q : Panel) → IsFine p → IsStatus status
     → StepText p text status f a q → IsFine q
@@ -140,9 +148,9 @@ done_fine : (after : Panel) (f : Bool) (a : SessionAnswer) (q : Panel) → IsFin
 done_fine after f (Done None) q k h = fine_is after q h.1 k
 done_fine after f a q k h = absurd h
 
-setting_fine : (p : Panel) (Fits : Type 0) (error : ScpiError) (setup : SettingsSeen) (f : Bool) (a : SessionAnswer) (q : Panel) → IsFine p
+setting_fine : (p : Panel) (Fits : Type 0) (error : ScpiError) (setup : Setup) (f : Bool) (a : SessionAnswer) (q : Panel) → IsFine p
     → is_running p ≡ false
-    → (Fits → IsInRange p.settings → IsInRange setup) → StepSetting p Fits error setup f a q → IsFine q
+    → (Fits → IsInRange p.settings.scan → IsInRange setup.scan) → StepSetting p Fits error setup f a q → IsFine q
 setting_fine p Fits error setup f (Done None) q k i r h =
     fine_is (record p { settings = setup }) q h.2 (record {
       cage = k.cage;
@@ -167,11 +175,12 @@ alone_fine (TellsReadings readings) p f a q k n h = readings_fine (readings p) p
 alone_fine (ReadsOut text after) p f a q k n h = text_fine p (text p.status) (after p.status) f a q k (n k.status) h
 alone_fine (SetsStatus after) p f a q k n h =
     done_fine (record p { status = after p.status }) f a q (record { cage = k.cage; range = k.range; settings = k.settings; status = n k.status }) h
-alone_fine (SetsUp Fits error after) p f a q k n h = setting_fine p Fits error (after p.settings) f a q k n.2 n.0 h
+alone_fine (SetsUp Fits error after) p f a q k n h = setting_fine p (Fits p.settings) error (after p.settings) f a q k n.2 n.0 h
 alone_fine (ClosesListed chans) p f a q k n h = close_fine p chans f a q k n h
 alone_fine (OpensListed chans) p f a q k n h = open_fine p chans f a q k n h
 alone_fine (TellsHardware there text) p f a q k n h = hardware_fine p (there p) (text p) f a q k h
-alone_fine (TellsSurety known) p f a q k n h = surety_fine p (known p) f a q k h
+alone_fine (TellsSurety text) p f a q k n h = surety_fine p (text p) f a q k h
+alone_fine (TellsListing listing) p f a q k n h = listing_fine p listing f a q k h
 alone_fine Resets p f a q k n h =
     done_fine (reset p) f a q (record {
       cage = dropped (safe_state p.cage) (fallen_all p.cage k.cage) refl;
@@ -267,7 +276,7 @@ starts_fine p plan f told q k may h =
     let s : StatusSeen = if tells_fault told then card_fault_reported p.status else card_fault_cleared p.status in
     let u : IsStatus s = status_if (tells_fault told) _ _ (reported_status p.status k.status) (cleared_status p.status k.status) in
     let next : Panel = record p { cage = q.cage; status = s } in
-    let c : IsKept q.cage = kept_begun p.cage q.cage p.settings plan told k.cage (is_none (slot_at p.cage.out p.settings.meter) may.home) k.range h.2 h.1 h.3 in
+    let c : IsKept q.cage = kept_begun p.cage q.cage p.settings plan told k.cage (is_none (slot_at p.cage.out (meter_of p.settings)) may.home) k.range h.2 h.1 h.3 in
     fine_is next q h.4 (record { cage = c; range = k.range; settings = by_goes (begun p.cage) q.cage (course_of p.settings) 0 told h.3; status = u })
 
 effect_fine : (d : Effect) (p : Panel) (f : Bool) (a : SessionAnswer) (w : Option WorkSeen) (q : Panel) → IsFine p → IsHarmless p d → StepEffect d p f a w q

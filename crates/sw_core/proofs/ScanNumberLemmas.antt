@@ -13,8 +13,10 @@ use Rattle.sw_card.specs.declared.board.CardFault.{CardFault}
 use Rattle.sw_lex.specs.declared.command.Command.{Command}
 use Rattle.sw_lex.specs.declared.command.Plain.{Plain}
 use Rattle.sw_lex.specs.declared.command.Channels.{Channels}
+use Rattle.sw_base.specs.declared.terms.StatusGroup.{StatusGroup}
+use Rattle.sw_lex.specs.declared.command.GroupQuery.{GroupQuery}
 use Rattle.sw_lex.specs.declared.command.SlotQuery.{SlotQuery}
-use Rattle.sw_trigger.specs.Settings.{SettingsSeen}
+use Rattle.sw_verify.specs.declared.setup.Setup.{Setup}
 use Rattle.sw_status.specs.StatusModel.{StatusSeen}
 use Rattle.sw_verify.specs.declared.snapshot.Snapshot.{Snapshot}
 use Rattle.sw_cage.specs.Cage.{ScanSeen, CageSeen, safe_state}
@@ -31,14 +33,14 @@ use Rattle.sw_core.specs.declared.ask.SessionAnswer.{SessionAnswer}
 use Rattle.sw_core.specs.declared.ask.SessionAnswer.TheVariants as answers
 use Rattle.sw_core.specs.declared.ask.SessionAnswer.TheVariants.{Joined, Full, Stranger, Broken, Done, Refused, Hold, Worn}
 use Rattle.sw_core.specs.Panel.{Panel, with_cards, is_running}
-use Rattle.sw_core.specs.Action.{Effect, TellsText, TellsReadings, ReadsOut, SetsStatus, SetsUp, ClosesListed, OpensListed, TellsHardware, TellsSurety}
+use Rattle.sw_core.specs.Action.{Effect, TellsText, TellsReadings, ReadsOut, SetsStatus, SetsUp, ClosesListed, OpensListed, TellsHardware, TellsSurety, TellsListing}
 use Rattle.sw_core.specs.Action.{Changes}
 use Rattle.sw_core.specs.Action.{Resets, Triggers, RefusesWith, IsOfMacros, Initiates, Action, AtOnce, BetweenScans, AfterScan, action_of, reset}
 use Rattle.sw_core.specs.Event.{last_number}
 use Rattle.sw_core.specs.Seats.{asker_of}
 use Rattle.sw_core.specs.Seen.{WorkSeen, AskSeen, AskSession, AskInstall, AskEject, AskExternal, AskElapsed, AskFinished, AnswerSeen, SaysSession}
 use Rattle.sw_core.specs.Seen.{SaysInstalled, SaysNotInstalled, SaysEjected, SaysNotEjected, SaysBack}
-use Rattle.sw_core.specs.Step.{StepClose, StepOpen, StepHardware, StepSurety, StepText, StepDone, StepSetting, StepRefused, StepReadings, StepAlone, StepEffect, StepHeld}
+use Rattle.sw_core.specs.Step.{StepClose, StepOpen, StepHardware, StepSurety, StepListing, StepText, StepDone, StepSetting, StepRefused, StepReadings, StepAlone, StepEffect, StepHeld}
 use Rattle.sw_core.specs.Step.{StepAction, StepSnapshot, StepStart, IsServed, StepJoined, StepAdmitted, StepJoin, StepAttach, StepNew, StepSession}
 use Rattle.sw_core.specs.Step.{Happens, Returns, StepFinished, Acts, acts_unnumbered, IsWorn, IsEvent, IsUnnumbered, Step}
 use Rattle.sw_core.specs.Step.{Admission, Dropped, ShutOut, Admitted, admission}
@@ -78,9 +80,14 @@ keep_hardware p there text f (Refused HardwareMissing) q h = keep_is p q h.2
 keep_hardware p there text f (Refused OutOfMemory) q h = keep_is p q h.2
 keep_hardware p there text f a q h = absurd h
 
-keep_surety : (p : Panel) (known : Option (List ℕ)) (f : Bool) (a : SessionAnswer) (q : Panel) → StepSurety p known f a q → IsKeeping p q
-keep_surety p known f (Done (Some t)) q h = keep_is p q h.2
-keep_surety p known f a q h = absurd h
+keep_surety : (p : Panel) (text : Bool → List ℕ) (f : Bool) (a : SessionAnswer) (q : Panel) → StepSurety p text f a q → IsKeeping p q
+keep_surety p text f (Done (Some t)) q h = keep_is p q h.2
+keep_surety p text f a q h = absurd h
+
+keep_listing : (p : Panel) (listing : List ℕ) (f : Bool) (a : SessionAnswer) (q : Panel) → StepListing p listing f a q → IsKeeping p q
+keep_listing p listing f (Done (Some t)) q h = keep_is p q h.2
+keep_listing p listing f (Refused OutOfMemory) q h = keep_is p q h.1
+keep_listing p listing f a q h = absurd h
 
 keep_text : (p : Panel) (text : List ℕ) (status : StatusSeen) (f : Bool) (a : SessionAnswer) (q : Panel) → StepText p text status f a q → IsKeeping p q
 keep_text p text status f (Done (Some t)) q h = keep_as p q (record p { status = status }) h.2 refl
@@ -91,7 +98,7 @@ keep_done : (p after : Panel) (f : Bool) (a : SessionAnswer) (q : Panel) → IsK
 keep_done p after f (Done None) q k h = keep_as p q after h.1 k
 keep_done p after f a q k h = absurd h
 
-keep_setting : (p : Panel) (Fits : Type 0) (error : ScpiError) (setup : SettingsSeen) (f : Bool) (a : SessionAnswer) (q : Panel)
+keep_setting : (p : Panel) (Fits : Type 0) (error : ScpiError) (setup : Setup) (f : Bool) (a : SessionAnswer) (q : Panel)
     → StepSetting p Fits error setup f a q → IsKeeping p q
 keep_setting p Fits error setup f (Done None) q h = keep_as p q (record p { settings = setup }) h.2 refl
 keep_setting p Fits error setup f (Refused e) q h = keep_is p q h.3
@@ -120,6 +127,11 @@ keeps_command p available (Command.Plain Plain.Reset) = refl
 keeps_command p available (Command.Continuous true) = refl
 keeps_command p available (Command.Continuous false) = refl
 keeps_command p available (Command.Channels Channels.Close chans) = refl
+keeps_command p available (Command.GroupQuery GroupQuery.Condition StatusGroup.Operation) = refl
+keeps_command p available (Command.GroupQuery GroupQuery.Condition StatusGroup.Questionable) = refl
+keeps_command p available (Command.GroupQuery GroupQuery.Enable group) = refl
+keeps_command p available (Command.GroupQuery GroupQuery.PositiveTransition group) = refl
+keeps_command p available (Command.GroupQuery GroupQuery.NegativeTransition group) = refl
 keeps_command p available (Command.SlotQuery SlotQuery.Kind slot) = refl
 keeps_command p available (Command.SlotQuery SlotQuery.Groups slot) = refl
 keeps_command p available (Command.SlotQuery SlotQuery.State slot) = refl
@@ -130,11 +142,12 @@ keep_alone (TellsText text) p f a q k h = keep_text p (text p) p.status f a q h
 keep_alone (TellsReadings readings) p f a q k h = keep_readings (readings p) p f a q h
 keep_alone (ReadsOut text after) p f a q k h = keep_text p (text p.status) (after p.status) f a q h
 keep_alone (SetsStatus after) p f a q k h = keep_done p (record p { status = after p.status }) f a q refl h
-keep_alone (SetsUp Fits error after) p f a q k h = keep_setting p Fits error (after p.settings) f a q h
+keep_alone (SetsUp Fits error after) p f a q k h = keep_setting p (Fits p.settings) error (after p.settings) f a q h
 keep_alone (ClosesListed chans) p f a q k h = keep_close p chans f a q h
 keep_alone (OpensListed chans) p f a q k h = keep_open p chans f a q h
 keep_alone (TellsHardware there text) p f a q k h = keep_hardware p (there p) (text p) f a q h
-keep_alone (TellsSurety known) p f a q k h = keep_surety p (known p) f a q h
+keep_alone (TellsSurety text) p f a q k h = keep_surety p (text p) f a q h
+keep_alone (TellsListing listing) p f a q k h = keep_listing p listing f a q h
 keep_alone (Changes after) p f a q k h = keep_done p (after p) f a q k h
 keep_alone Resets p f a q k h = keep_done p (reset p) f a q refl h
 keep_alone (RefusesWith error) p f a q k h = keep_refused p error f a q h

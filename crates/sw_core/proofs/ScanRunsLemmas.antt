@@ -5,13 +5,15 @@ use Rattle.std.specs.Prelude.{MatchBool, IfSome}
 use Rattle.std.proofs.lemmas.List.{take-append-drop}
 use mathlib.Core.Path.{fun_ext}
 use Rattle.sw_trigger.specs.declared.layer.Awaited.{Awaited}
-use Rattle.sw_trigger.specs.Settings.{SettingsSeen}
-use Rattle.sw_trigger.specs.Agenda.{Item, agenda}
-use Rattle.sw_trigger.specs.Counts.{awaiting, bound_of, reads}
+use Rattle.sw_verify.specs.declared.setup.Setup.{Setup}
+use Rattle.sw_trigger.specs.Agenda.{Item}
+use Rattle.sw_trigger.specs.Counts.{awaiting, reads}
 use Rattle.sw_verify.specs.declared.snapshot.Snapshot.{Snapshot}
 use Rattle.sw_verify.specs.Channels.{Channels, is_among}
 use Rattle.sw_verify.specs.Sound.{effect}
-use Rattle.sw_verify.specs.Course.{CourseSeen, course_of}
+use Rattle.sw_verify.specs.Course.{CourseSeen}
+use Rattle.sw_verify.specs.Setup.{agenda, bound_of, points_of, course_of}
+use Rattle.sw_verify.proofs.ReadyLemmas.{ready_some, ready_sound}
 use Rattle.sw_verify.proofs.Round.{effect-append}
 use Rattle.sw_cage.specs.Accounts.{is_closed}
 use Rattle.sw_cage.specs.Channels.{closed_list}
@@ -35,7 +37,6 @@ use Rattle.sw_cage.proofs.ClosedMemberLemmas.{among_closed}
 use Rattle.sw_core.specs.Seen.{WorkSeen, AskSeen, AskSession, AnswerSeen, SaysSession}
 use Rattle.sw_trigger.specs.Settings.{IsInRange}
 use Rattle.sw_trigger.proofs.Awaiting.{reads-append}
-use Rattle.sw_trigger.proofs.Ranges.{some_bound}
 use Rattle.sw_cage.specs.Good.{IsUnderway}
 use Rattle.sw_core.specs.Seen.{failed_in}
 use Rattle.sw_core.specs.Run.{Event, IsNextEvent, IsRun}
@@ -105,14 +106,14 @@ begun_by p q plan f told k e h =
     record {
       left = left_started (occupancy_of (begun p.cage)) (occupancy_of q.cage) (p.cage.number + 1) (course_of p.settings) 0 told q.cage.scan e h.3.runs
           ∙ ap bound_of (sym settings);
-      some = some_bound plan.settings h.2.listed (subst (λ (s : SettingsSeen). IsInRange s) (sym settings) k.range);
+      some = ready_some plan (subst (λ (s : Setup). IsInRange s.scan) (sym settings) k.range) h.2;
       none = h.3.readings;
       held = λ at is.
           let r = leaves_goes (occupancy_of (begun p.cage)) (occupancy_of q.cage) (p.cage.number + 1) (course_of p.settings) 0 told q.cage.scan at
           h.3.runs is in
           let all : effect (is_closed p.cage.cards) (agenda p.settings) ≡ is_among plan.closed =
-          ap (λ (b : Channels). effect b (agenda p.settings)) found ∙ ap (λ (s : SettingsSeen). effect (is_among plan.closed) (agenda s)) (sym settings)
-          ∙ fun_ext h.2.sound.back in
+          ap (λ (b : Channels). effect b (agenda p.settings)) found ∙ ap (λ (s : Setup). effect (is_among plan.closed) (agenda s)) (sym settings)
+          ∙ fun_ext (ready_sound plan h.2).back in
           (r.0 ∙ ap course_of (sym settings), r.1 ∙ all);
     }
 
@@ -241,12 +242,12 @@ over_by : (plan : Snapshot) (p q : Panel) (taken : ℕ) (e : Event) (at : ScanSe
     → Completed p.cage at (took e.ask e.answer) q.cage ⊎ ((breaks_off e.ask e.answer ≡ true) × Stopped at q.cage) → IsOver plan taken p e
 over_by plan p q taken e at s u is kept h =
     let all : (n : ℕ)
-    → reads (take n at.course.items) ≤ plan.settings.points =
+    → reads (take n at.course.items) ≤ points_of plan.settings =
     λ (n : ℕ). subst (λ (x : CourseSeen). reads (take n at.course.items) ≤ x.points) s.course (omega (arith, u.way.sound.fits, reads_part at.course.items n)) in
     subst (λ (x : Panel). IsComplete plan (taken + took e.ask e.answer) x
     ⊎ ((breaks_off e.ask e.answer ≡ true) × IsBrokenOff plan p e.ask e.answer x)) (sym is) (by_end all h)
   where
-    by_end : ((n : ℕ) → reads (take n at.course.items) ≤ plan.settings.points) → Completed p.cage at (took e.ask e.answer) q.cage
+    by_end : ((n : ℕ) → reads (take n at.course.items) ≤ points_of plan.settings) → Completed p.cage at (took e.ask e.answer) q.cage
         ⊎ ((breaks_off e.ask e.answer ≡ true) × Stopped at q.cage)
         → IsComplete plan (taken + took e.ask e.answer) q ⊎ ((breaks_off e.ask e.answer ≡ true) × IsBrokenOff plan p e.ask e.answer q)
     by_end all (inl h) = inl (record {

@@ -10,10 +10,12 @@ use Rattle.sw_base.specs.declared.error.ScpiError.TheVariants.{UndefinedHeader, 
 use Rattle.sw_base.specs.declared.error.ScpiError.TheVariants.{SettingsConflict, HardwareError}
 use Rattle.sw_base.specs.declared.terms.LayerName.TheVariants as layer_name
 use Rattle.sw_lex.specs.declared.command.Command.{Command}
+use Rattle.sw_base.specs.declared.terms.StatusGroup.{StatusGroup}
+use Rattle.sw_lex.specs.declared.command.GroupQuery.{GroupQuery}
 use Rattle.sw_lex.specs.declared.command.SlotQuery.{SlotQuery}
 use Rattle.sw_lex.specs.declared.command.Plain.{Plain}
 use Rattle.sw_lex.specs.declared.command.Channels.{Channels}
-use Rattle.sw_trigger.specs.Settings.{SettingsSeen}
+use Rattle.sw_verify.specs.declared.setup.Setup.{Setup}
 use Rattle.sw_status.specs.StatusModel.{StatusSeen}
 use Rattle.sw_verify.specs.Sound.{effect}
 use Rattle.sw_cage.specs.Cage.{CageSeen}
@@ -23,10 +25,10 @@ use Rattle.sw_core.specs.declared.ask.SessionAsk.TheVariants as Ask
 use Rattle.sw_core.specs.declared.ask.SessionAnswer.{SessionAnswer}
 use Rattle.sw_core.specs.declared.ask.SessionAnswer.TheVariants.{Done, Refused}
 use Rattle.sw_core.specs.Panel.{Panel, is_running}
-use Rattle.sw_core.specs.Action.{Effect, TellsText, TellsReadings, ReadsOut, SetsStatus, SetsUp, ClosesListed, OpensListed, TellsHardware, TellsSurety}
+use Rattle.sw_core.specs.Action.{Effect, TellsText, TellsReadings, ReadsOut, SetsStatus, SetsUp, ClosesListed, OpensListed, TellsHardware, TellsSurety, TellsListing}
 use Rattle.sw_core.specs.Action.{Changes}
 use Rattle.sw_core.specs.Action.{Resets, reset, Triggers, RefusesWith, IsOfMacros, Initiates, Action, AtOnce, BetweenScans, AfterScan, action_of}
-use Rattle.sw_core.specs.Step.{StepClose, StepOpen, StepHardware, StepSurety, StepText, StepDone, StepSetting, StepRefused, StepReadings, StepAlone}
+use Rattle.sw_core.specs.Step.{StepClose, StepOpen, StepHardware, StepSurety, StepListing, StepText, StepDone, StepSetting, StepRefused, StepReadings, StepAlone}
 use Rattle.sw_core.specs.Taken.{went_on}
 use Rattle.sw_core.specs.Ends.{breaks_off}
 use Rattle.sw_core.specs.Seen.{AskSeen, AskSession, AnswerSeen, SaysSession}
@@ -64,7 +66,8 @@ IsStillEffect off p (SetsUp Fits error after) = Unit {0}
 IsStillEffect off p (ClosesListed chans) = p.cage.scan ≡ None
 IsStillEffect off p (OpensListed chans) = p.cage.scan ≡ None
 IsStillEffect off p (TellsHardware there text) = Unit {0}
-IsStillEffect off p (TellsSurety known) = Unit {0}
+IsStillEffect off p (TellsSurety text) = Unit {0}
+IsStillEffect off p (TellsListing listing) = Unit {0}
 IsStillEffect off p (Changes after) = IsStill off p (after p)
 IsStillEffect off p Resets = off ≡ true
 IsStillEffect off p (Triggers happening error) = went_on (Refused error) ≡ 0
@@ -97,7 +100,11 @@ still_command sid p available (Command.Plain Plain.Fetch) = tt
 still_command sid p available (Command.Plain Plain.Read) = tt
 still_command sid p available (Command.Query query) = tt
 still_command sid p available (Command.LayerQuery query layer) = tt
-still_command sid p available (Command.GroupQuery query group) = tt
+still_command sid p available (Command.GroupQuery GroupQuery.Condition StatusGroup.Operation) = tt
+still_command sid p available (Command.GroupQuery GroupQuery.Condition StatusGroup.Questionable) = tt
+still_command sid p available (Command.GroupQuery GroupQuery.Enable group) = tt
+still_command sid p available (Command.GroupQuery GroupQuery.PositiveTransition group) = tt
+still_command sid p available (Command.GroupQuery GroupQuery.NegativeTransition group) = tt
 still_command sid p available (Command.SlotQuery SlotQuery.Kind slot) = tt
 still_command sid p available (Command.SlotQuery SlotQuery.Groups slot) = tt
 still_command sid p available (Command.SlotQuery SlotQuery.State slot) = tt
@@ -111,6 +118,7 @@ still_command sid p available (Command.Channels Channels.CloseQuery chans) = tt
 still_command sid p available (Command.Channels Channels.CloseCheck chans) = tt
 still_command sid p available (Command.Channels Channels.Open chans) = λ i. none_of p i
 still_command sid p available (Command.Channels Channels.OpenQuery chans) = tt
+still_command sid p available (Command.ListingCheck listing) = tt
 still_command sid p available (Command.Set setting) = λ i. tt
 still_command sid p available (Command.SetStatus setting) = tt
 still_command sid p available (Command.Macros ask) = tt
@@ -139,10 +147,16 @@ still_hardware p there text f (Refused HardwareMissing) q h = still_as p q h.2
 still_hardware p there text f (Refused OutOfMemory) q h = still_as p q h.2
 still_hardware p there text f a q h = absurd h
 
-still_surety : {off : Bool} (p : Panel) (known : Option (List ℕ)) (f : Bool) (a : SessionAnswer) (q : Panel) → StepSurety p known f a q
+still_surety : {off : Bool} (p : Panel) (text : Bool → List ℕ) (f : Bool) (a : SessionAnswer) (q : Panel) → StepSurety p text f a q
     → IsStill off p q
-still_surety p known f (Done (Some t)) q h = still_as p q h.2
-still_surety p known f a q h = absurd h
+still_surety p text f (Done (Some t)) q h = still_as p q h.2
+still_surety p text f a q h = absurd h
+
+still_listing : {off : Bool} (p : Panel) (listing : List ℕ) (f : Bool) (a : SessionAnswer) (q : Panel) → StepListing p listing f a q
+    → IsStill off p q
+still_listing p listing f (Done (Some t)) q h = still_as p q h.2
+still_listing p listing f (Refused OutOfMemory) q h = still_as p q h.1
+still_listing p listing f a q h = absurd h
 
 still_text : {off : Bool} (p : Panel) (text : List ℕ) (status : StatusSeen) (f : Bool) (a : SessionAnswer) (q : Panel) → StepText p text status f a q
     → IsStill off p q
@@ -155,7 +169,7 @@ still_done : {off : Bool} (p after : Panel) (f : Bool) (a : SessionAnswer) (q : 
 still_done {off} p after f (Done None) q s h = subst (λ (x : Panel). IsStill off p x) (sym h.1) (s refl)
 still_done p after f a q s h = absurd h
 
-still_setting : {off : Bool} (p : Panel) (Fits : Type 0) (error : ScpiError) (setup : SettingsSeen) (f : Bool) (a : SessionAnswer) (q : Panel)
+still_setting : {off : Bool} (p : Panel) (Fits : Type 0) (error : ScpiError) (setup : Setup) (f : Bool) (a : SessionAnswer) (q : Panel)
     → StepSetting p Fits error setup f a q → IsStill off p q
 still_setting p Fits error setup f (Done None) q h = inl (ap (λ (x : Panel). x.cage) h.2)
 still_setting p Fits error setup f (Refused e) q h = still_as p q h.3
@@ -180,11 +194,12 @@ still_alone ask (TellsText text) p f a q n h = still_text p (text p) p.status f 
 still_alone ask (TellsReadings readings) p f a q n h = still_readings (readings p) p f a q h
 still_alone ask (ReadsOut text after) p f a q n h = still_text p (text p.status) (after p.status) f a q h
 still_alone ask (SetsStatus after) p f a q n h = still_done p (record p { status = after p.status }) f a q (λ e. inl refl) h
-still_alone ask (SetsUp Fits error after) p f a q n h = still_setting p Fits error (after p.settings) f a q h
+still_alone ask (SetsUp Fits error after) p f a q n h = still_setting p (Fits p.settings) error (after p.settings) f a q h
 still_alone ask (ClosesListed chans) p f a q n h = still_close p chans f a q n h
 still_alone ask (OpensListed chans) p f a q n h = still_open p chans f a q n h
 still_alone ask (TellsHardware there text) p f a q n h = still_hardware p (there p) (text p) f a q h
-still_alone ask (TellsSurety known) p f a q n h = still_surety p (known p) f a q h
+still_alone ask (TellsSurety text) p f a q n h = still_surety p (text p) f a q h
+still_alone ask (TellsListing listing) p f a q n h = still_listing p listing f a q h
 still_alone ask (Changes after) p f a q n h = still_done p (after p) f a q (λ e. subst (λ (b : Bool). IsStill b p (after p)) (off_as ask a e) n) h
 still_alone ask Resets p f a q n h = still_done p (reset p) f a q (λ e. inr (inr (sym (off_as ask a e) ∙ n, refl, all_open_closed p.cage.cards, inr refl))) h
 still_alone ask (RefusesWith error) p f a q n h = still_refused p error f a q h

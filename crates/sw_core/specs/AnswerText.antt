@@ -7,7 +7,7 @@ use Rattle.sw_core.specs.declared.answer_text.AnswerForm.{AnswerForm}
 use Rattle.sw_core.specs.declared.answer_text.AnswerForm.TheVariants.{Bytes, Number, Seconds, Fixed, Entry, Readings}
 
 -- the bytes, the decimal digits of the number (IEEE 488.2, 8.7.2: NR1), the seconds with their decimals (8.7.3: NR2),
--- the text that is always the same, what is told of an entry of the error queue, or readings with commas between them
+-- the text that is always the same, the text of an entry of the error queue, or readings with commas between them
 abbrev pub form_text : AnswerForm → List ℕ
 form_text (Bytes text) = text
 form_text (Number n) = decimal n

@@ -29,7 +29,7 @@ abbrev pub yes_or_no : Bool → List ℕ
 yes_or_no true = 49 ∷ []
 yes_or_no false = 48 ∷ []
 
--- the flag of a channel, closed or not, where the closed ones are asked for, or the open ones
+-- the flag of a channel, closed or not, by whether the query asks for the closed ones or the open ones
 abbrev pub as_asked : Bool → Bool → Bool
 as_asked true closed = closed
 as_asked false closed = not closed
@@ -45,7 +45,7 @@ error_entry e = entry (code_of e) (text_of e)
 abbrev pub no_error : List ℕ
 no_error = entry (pos 0) (codes "No error")
 
--- what is told of an entry, or that there is none
+-- the text of an entry, or of no entry
 abbrev pub entry_told : Option ScpiError → List ℕ
 entry_told None = no_error
 entry_told (Some e) = error_entry e
@@ -73,6 +73,6 @@ pub record IsRow (text : List ℕ) (pieces : List (List ℕ)) : Type 0 where
   pub joined : text ≡ join_with_byte 44 pieces
   pub some : AllByRecursion (λ piece. 0 < length piece) pieces
 
--- one more piece may be put behind these: where there are any, a comma stands behind them
+-- one more piece may follow these: where there are any, a comma ends them
 abbrev pub IsOpenEnded : List ℕ → List (List ℕ) → Type 0
 IsOpenEnded text pieces = (piece : List ℕ) → 0 < length piece → IsRow (text ++ piece) (pieces ++ piece ∷ [])

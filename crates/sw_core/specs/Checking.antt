@@ -1,4 +1,4 @@
--- Why channels may not be closed now: what DIAGnostic:CLOSe:CHECk? tells (own).
+-- Why channels may not be closed now: the answer to DIAGnostic:CLOSe:CHECk? (own).
 use Rattle.std.specs.Prelude.{ℕ, ◌==◌, Bool, not, ◌&&◌, List, [], ◌∷◌, ◌++◌, codes, Option, Some, None, if◌then◌else◌}
 use Rattle.sw_base.specs.Layout.{Channel, Layout, is_present, group_of}
 use Rattle.sw_channel.specs.Positions.{same_channel}
@@ -22,7 +22,7 @@ abbrev pub joined_with : Layout → Channel → List Channel → Option Channel
 joined_with layout c [] = None
 joined_with layout c (d ∷ others) = if are_joined layout c d then Some d else joined_with layout c others
 
--- a channel with its other, where there is one; else what is told of the rest
+-- a channel with its other, where there is one; else the pair that the rest gives
 abbrev pub pair_or : Channel → Option Channel → Option (Channel × Channel) → Option (Channel × Channel)
 pair_or c None rest = rest
 pair_or c (Some d) rest = Some (c, d)

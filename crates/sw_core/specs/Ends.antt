@@ -4,12 +4,11 @@ use Rattle.std.specs.Prelude.{◌≡◌, ℕ, ◌+◌, ◌≤◌, Bool, true, fa
 use Rattle.std.specs.Prelude.{Option, None, Some, IfSome, ◌⊎◌, ◌||◌}
 use Rattle.std.specs.List.{AllByRecursion}
 use Rattle.sw_base.specs.Layout.{Channel}
-use Rattle.sw_trigger.specs.Agenda.{agenda}
-use Rattle.sw_trigger.specs.Counts.{awaiting, bound_of, readings_of, reads}
+use Rattle.sw_trigger.specs.Counts.{awaiting, reads}
+use Rattle.sw_verify.specs.Setup.{agenda, bound_of, readings_of, points_of, course_of}
 use Rattle.sw_verify.specs.declared.snapshot.Snapshot.{Snapshot}
 use Rattle.sw_verify.specs.Channels.{is_among}
 use Rattle.sw_verify.specs.Sound.{effect}
-use Rattle.sw_verify.specs.Course.{course_of}
 use Rattle.sw_cage.specs.Accounts.{is_closed}
 use Rattle.sw_lex.specs.declared.command.Command.TheVariants as command
 use Rattle.sw_lex.specs.declared.command.Plain.TheVariants as plain
@@ -52,8 +51,8 @@ abbrev pub last_of : Panel → List Event → Panel
 last_of p [] = p
 last_of p (e ∷ events) = last_of e.panel events
 
--- A scan that runs has done the first items of its plan's agenda and no others: from what its plan found closed it has
--- come to what is closed now, with the readings of those items.
+-- A scan that runs has done the first items of its plan's agenda and no others: they lead from what its plan found
+-- closed to what is closed now, with the readings of those items.
 pub record IsFollowing (plan : Snapshot) (p : Panel) (at : ScanSeen) : Type 0 where
   pub course : at.course ≡ course_of plan.settings
   pub closed : (c : Channel)
@@ -67,11 +66,11 @@ stops (AskSession (Ask.Unit sid (command.Plain plain.Reset) available)) (SaysSes
 stops (AskEject slot) (SaysEjected card) = true
 stops ask answer = false
 
--- what ends a scan before it has come to its end: these, and a card's failure
+-- what breaks a scan off before it is complete: these, and a card's failure
 abbrev pub breaks_off : AskSeen → AnswerSeen → Bool
 breaks_off ask answer = tells_failure answer || stops ask answer
 
--- The scan of a plan came to its end.
+-- The scan of a plan is complete.
 pub record IsComplete (plan : Snapshot) (count : ℕ) (p : Panel) : Type 0 where
   -- what is closed is what the plan found closed
   pub closed : (c : Channel) → is_closed p.cage.cards c ≡ is_among plan.closed c
@@ -80,16 +79,16 @@ pub record IsComplete (plan : Snapshot) (count : ℕ) (p : Panel) : Type 0 where
   -- its readings are those of its whole agenda
   pub readings : length p.cage.readings ≡ readings_of plan.settings
   -- there was room for them
-  pub room : length p.cage.readings ≤ plan.settings.points
+  pub room : length p.cage.readings ≤ points_of plan.settings
 
--- The scan of a plan was ended before, by this ask: it ran at p, and none runs at q.
+-- This ask ended the scan of a plan before that: it ran at p, and none runs at q.
 pub record IsBrokenOff (plan : Snapshot) (p : Panel) (ask : AskSeen) (answer : AnswerSeen) (q : Panel) : Type 0 where
   -- no relay of any slot is closed
   pub none : (c : Channel) → is_closed q.cage.cards c ≡ false
   -- its readings are those that it had made, and that of the meter which came back; *RST drops them
   pub readings : q.cage.readings ≡ readings_after ask answer p.cage.readings
   -- there was room for them
-  pub room : length q.cage.readings ≤ plan.settings.points
+  pub room : length q.cage.readings ≤ points_of plan.settings
 
 -- The scan of a plan runs before this event, and none runs after it: then it is complete, or one of four things ended
 -- it and it is broken off. Nothing else ends a scan.
@@ -99,7 +98,7 @@ IsOver plan taken p e = IsComplete plan (taken + took e.ask e.answer) e.panel
 
 -- A scan has begun by the plan in the event before these, and none has since: while it runs it has done a prefix of its
 -- plan's agenda; it took no more happenings than its plan's bound; what it took and what it still awaits make up the
--- bound, unless it is over; and when it took so many, it is over.
+-- bound, unless it is over; and when it took as many as the bound, it is over.
 pub record IsEnding (plan : Snapshot) (start : Panel) (events : List Event) : Type 0 where
   pub follows : IfSome (last_of start events).cage.scan (λ at. IsFollowing plan (last_of start events) at)
   pub most : taken_in events ≤ bound_of plan.settings
@@ -113,7 +112,7 @@ pub record BeginsScan (plan : Snapshot) (start : Event) : Type 0 where
   pub ask : start.ask ≡ AskSession (Ask.Start sid plan)
   pub done : begins start.ask start.answer ≡ true
 
--- Of a scan that began in an event of any run, whatever went before, and of the events after that.
+-- Of a scan that began in any event of any run, and of the events after that one.
 pub record ScanEnds (plan : Snapshot) (start : Event) : Type 0 where
   -- it runs then
   pub runs : is_running start.panel ≡ true

@@ -56,8 +56,8 @@ last_number = 2 ^ 64 - 1
 abbrev pub next_number : ℕ → ℕ
 next_number n = min last_number (n + 1)
 
--- The event ends: *OPC is done where no scan runs, OPERation tells what the scan awaits, a service request arises or
--- not, and the event is counted.
+-- The event ends: *OPC completes where no scan runs, OPERation shows what the scan awaits, a service request arises or
+-- not, and the mainframe counts the event.
 abbrev pub ended : Panel → Panel
 ended p = record p {
   status = event_ended (with_operation
@@ -70,8 +70,8 @@ ended p = record p {
 abbrev pub erred : Panel → ScpiError → Panel
 erred p e = record p { status = pushed p.status e }
 
--- What is asked of no joined session, held, handed back, or can't be numbered is no event. A refusal queues its error
--- before its event ends.
+-- An ask of no joined session is no event, nor one that the mainframe holds, gives back or can't number. A refusal
+-- queues its error before its event ends.
 abbrev pub session_concluded : SessionAnswer → Panel → Panel
 session_concluded Stranger p = p
 session_concluded Broken p = p

@@ -1,10 +1,10 @@
--- What is so of every mainframe, whatever went before.
+-- What holds of every mainframe, after any asks.
 use Rattle.std.specs.Prelude.{◌≡◌, ℕ, ◌≤◌, Bool, false, length, Option, None, Some, IfSome}
 use Rattle.sw_base.specs.Limits.{most_channels}
 use Rattle.sw_base.specs.Layout.{slot_at}
 use Rattle.sw_card.specs.Account.{Account, is_meter}
 use Rattle.sw_trigger.specs.Settings.{IsInRange}
-use Rattle.sw_verify.specs.Course.{course_of}
+use Rattle.sw_verify.specs.Setup.{course_of}
 use Rattle.sw_status.specs.StatusModel.{IsStatus}
 use Rattle.sw_cage.specs.Accounts.{Accounts}
 use Rattle.sw_cage.specs.Good.{IsGood}
@@ -22,7 +22,7 @@ OptionFew (Some card) = is_meter card ≡ false → length card.groups ≤ most_
 abbrev pub IsFew : Accounts → Type 0
 IsFew cards = (slot : ℕ) → OptionFew (slot_at cards slot)
 
--- what is so at the end of each event
+-- what holds at the end of each event
 pub record IsGoodPanel (p : Panel) : Type 0 where
   -- only relays of the cage are closed, and no two closed ones are of one group
   pub safe : IsSafe p
@@ -32,18 +32,18 @@ pub record IsGoodPanel (p : Panel) : Type 0 where
   -- no relay card has more channels than a card may have
   pub few : IsFew p.cage.cards
   -- the settings are within their limits
-  pub range : IsInRange p.settings
-  -- a scan that runs goes by the settings: its items are their agenda
+  pub range : IsInRange p.settings.scan
+  -- a scan that runs follows the settings: its items are their agenda
   pub settings : IfSome p.cage.scan (λ at. at.course ≡ course_of p.settings)
   -- the status is within its limits: the queue holds 32 errors at most
   pub status : IsStatus p.status
-  -- the locks are in order, and whoever holds one is joined
+  -- the locks are in order, and each session that holds one is joined
   pub sessions : AreSeated p.sessions
-  -- OPERation's condition tells what the scan awaits, nothing where none runs
+  -- OPERation's condition shows what the scan awaits, nothing where none runs
   pub condition : p.status.operation.condition ≡ scan_bits p.cage.scan
 
--- A mainframe begins good, and is good after each ask that was good before: so it is whatever went before, unknown to
--- who is lent it.
+-- A mainframe begins good. One that is good before an ask is good after it. So a function that borrows a mainframe
+-- knows it good without knowing the asks before.
 pub record StaysGood : Type 0 where
   pub opening : (events scans : ℕ) → IsGoodPanel (opening_at events scans)
   pub step : (p q : Panel) (ask : AskSeen) (failed : Bool) (answer : AnswerSeen)

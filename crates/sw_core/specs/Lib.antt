@@ -8,8 +8,10 @@ pub mod Registers
 pub mod Event
 pub mod Checking
 pub mod ScanChecking
+pub mod ListingCheck
 pub mod SlotTexts
 pub mod Action
+pub mod LeftOpen
 pub mod Step
 pub mod Good
 pub mod Taken

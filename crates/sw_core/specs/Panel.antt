@@ -1,7 +1,8 @@
 -- The whole state of the mainframe as plain data.
 use Rattle.std.specs.Prelude.{ℕ, Bool, false, List, is_some}
 use Rattle.sw_base.specs.Layout.{Channel, IsExclusive}
-use Rattle.sw_trigger.specs.Settings.{SettingsSeen, at_reset}
+use Rattle.sw_verify.specs.declared.setup.Setup.{Setup}
+use Rattle.sw_verify.specs.Setup.{setup_at_reset}
 use Rattle.sw_status.specs.StatusModel.{StatusSeen, first_status}
 use Rattle.sw_cage.specs.Cage.{CageSeen, empty_cage}
 use Rattle.sw_cage.specs.Accounts.{Accounts, layout_of, is_closed}
@@ -13,17 +14,17 @@ pub record Panel : Type 0 where
   pub cage : CageSeen
   pub sessions : SessionsSeen
   pub status : StatusSeen
-  pub settings : SettingsSeen
+  pub settings : Setup
   pub opc_waits : Bool
   pub events : ℕ
 
--- an empty cage, nobody joined, status and settings as at the start, and these numbers of events and scans
+-- an empty cage, no session joined, status and settings as at the start, and these numbers of events and scans
 abbrev pub opening_at : ℕ → ℕ → Panel
 opening_at events scans = record {
   cage = record empty_cage { number = scans };
   sessions = nobody;
   status = first_status;
-  settings = at_reset;
+  settings = setup_at_reset;
   opc_waits = false;
   events = events;
 }

@@ -1,4 +1,4 @@
--- Runs: lists of events from the opening state, and what none of them can do.
+-- Runs: lists of events from the opening state, and what no run can do.
 use Rattle.std.specs.Prelude.{◌≡◌, ◌≢◌, ℕ, Bool, true, false, List, [], ◌∷◌, ◌++◌, Some, None, ◌⊎◌, decimal}
 use Rattle.std.specs.Prelude.{Option, length, map, is_err}
 use Rattle.sw_base.specs.Layout.{Channel}
@@ -28,16 +28,16 @@ use Rattle.sw_core.specs.Seen.{WorkSeen, AskSeen, AskSession, AskEject, AskFinis
 use Rattle.sw_core.specs.Seen.{SaysFailed, failed_in, IsOwnAccount, with_meter}
 use Rattle.sw_core.specs.Taken.{took, is_happening, readings_after, IsUnmoved}
 use Rattle.sw_core.specs.Seats.{FindsKey}
-use Rattle.sw_core.specs.SlotTexts.{tells_surety}
 use Rattle.sw_core.specs.Step.{Step, Brings}
+use Rattle.sw_core.specs.LeftOpen.{leaves_open}
 
--- one event: what was asked, what was answered, and the state after it
+-- one event: an ask, its answer, and the state after it
 pub record Event : Type 0 where
   pub ask : AskSeen
   pub answer : AnswerSeen
   pub panel : Panel
 
--- the event is a step from p, in which a card failed exactly where a count of failures tells so
+-- the event is a step from p, with a card's failure in it exactly where `failed_in` says so
 pub record IsNextEvent (p : Panel) (e : Event) : Type 0 where
   pub own : IsOwnAccount e.ask
   pub step : Step p e.ask (failed_in e.ask e.answer p.cage.cards e.panel.cage.cards) e.answer e.panel
@@ -58,14 +58,14 @@ abbrev pub AtEach : (Panel → Event → Type 0) → Panel → List Event → Ty
 AtEach Is p [] = Unit {0}
 AtEach Is p (e ∷ events) = Is p e × AtEach Is e.panel events
 
--- DIAGnostic:SCAN:BOUNd? is answered by the bound of the scan that runs
+-- the answer to DIAGnostic:SCAN:BOUNd? is the bound of the scan that runs
 abbrev pub TellsBound : Event → Type 0
 TellsBound e = (sid : Sid) (available : Bool) (text : List ℕ) (at : ScanSeen)
     → e.ask ≡ AskSession (Ask.Unit sid (command.Query query.Bound) available)
     → e.answer ≡ SaysSession (Done (Some text)) None
     → e.panel.cage.scan ≡ Some at → text ≡ decimal (length (awaiting at.course.items))
 
--- a card's failure is answered
+-- the answer reports a card's failure
 abbrev pub tells_failure : AnswerSeen → Bool
 tells_failure SaysFailed = true
 tells_failure (SaysSession (Refused HardwareError) work) = true
@@ -77,7 +77,7 @@ CountsFailure (AskFinished done) old new =
     (done.meter.failures ≢ done.before) ⊎ (any_failed (with_meter old done) new ≡ true)
 CountsFailure ask old new = any_failed old new ≡ true
 
--- the meter that came back measured this last, by its own account
+-- this is the last reading of the meter that came back, by its own account
 abbrev pub IsLastOf : AskSeen → Reading → Type 0
 IsLastOf (AskFinished done) r = done.meter.last ≡ Some r
 IsLastOf ask r = ⊥
@@ -86,41 +86,42 @@ IsLastOf ask r = ⊥
 abbrev pub AddsOwn : AskSeen → List Reading → List Reading → Type 0
 AddsOwn ask old new = (new ≡ old) ⊎ ((new ≡ []) ⊎ ((r : Reading) × IsLastOf ask r × (new ≡ old ++ r ∷ [])))
 
--- the meter that the scan awaits came back, and had measured in vain
+-- the meter that the scan awaits came back, and its measurement had failed
 abbrev pub MeasuresInVain : Panel → AskSeen → Type 0
 MeasuresInVain p (AskFinished done) =
     TakesReturn p.cage done.slot done.ticket × (is_err done.outcome ≡ true)
 MeasuresInVain p ask = ⊥
 
--- a card failed: one that stayed in its slot counts other failures than before, or the scan's meter measured in vain
+-- a card failed: one that stayed in its slot counts other failures than before, or the measurement of the scan's meter
+-- failed
 abbrev pub HasFailure : Panel → AskSeen → Panel → Type 0
 HasFailure p ask q = (any_failed p.cage.cards q.cage.cards ≡ true) ⊎ MeasuresInVain p ask
 
--- no scan runs, every relay is open, -240 is queued behind the errors before it, and QUEStionable tells of a failure
+-- no scan runs, every relay is open, -240 is queued behind the errors before it, and QUEStionable reports a failure
 pub record IsAfterCardFault (p q : Panel) : Type 0 where
   pub none : (c : Channel) → is_closed q.cage.cards c ≡ false
   pub idle : q.cage.scan ≡ None
   pub told : q.status.errors ≡ queued p.status.errors HardwareError
   pub condition : q.status.questionable.condition ≡ 512
 
--- what is so of each event
+-- what holds of each event
 pub record IsGoodEvent (p : Panel) (e : Event) : Type 0 where
   -- it leaves the mainframe good
   pub panel : IsGoodPanel e.panel
-  -- the bound that is told is that of the scan that runs
+  -- the bound that DIAGnostic:SCAN:BOUNd? answers is that of the scan that runs
   pub bound : TellsBound e
-  -- no failure is told where none was counted
+  -- the answer reports no failure where no card counted one
   pub failure : tells_failure e.answer ≡ true → CountsFailure e.ask p.cage.cards e.panel.cage.cards
-  -- and none is kept silent: it is told, every relay is open and no scan runs
+  -- and it keeps none silent: after a failure it reports one, every relay is open and no scan runs
   pub told : HasFailure p e.ask e.panel → (tells_failure e.answer ≡ true) × IsAfterCardFault p e.panel
-  -- no reading is made up
+  -- a reading that is added is the returned meter's own
   pub own : AddsOwn e.ask p.cage.readings e.panel.cage.readings
-  -- and none is lost but by *RST and where a scan begins
+  -- no reading is lost but by *RST and where a scan begins
   pub readings : e.panel.cage.readings ≡ readings_after e.ask e.answer p.cage.readings
-  -- what the scan does not take moves nothing
+  -- a happening that the scan does not take moves nothing
   pub missed : is_happening e.ask ≡ true → took e.ask e.answer ≡ 0 → IsUnmoved p e.panel
 
--- in every run, whatever the numbers of events and scans begin with
+-- in every run, with any first numbers of events and scans
 abbrev pub EveryRunIsGood : Type 0
 EveryRunIsGood = (numbered scanned : ℕ) (events : List Event)
     → IsRun (opening_at numbered scanned) events → AtEach IsGoodEvent (opening_at numbered scanned) events
@@ -130,26 +131,27 @@ pub record IsAtRest (q : Panel) : Type 0 where
   pub none : (c : Channel) → is_closed q.cage.cards c ≡ false
   pub idle : q.cage.scan ≡ None
 
--- a unit of a session's message that is done, and answers nothing
+-- a unit of a session's message that the mainframe does, and that answers nothing
 abbrev pub IsDoneFor : Panel → Command → Bool → Bool → Panel → Type 0
 IsDoneFor p unit available failed q = (sid : Sid)
     × Step p (AskSession (Ask.Unit sid unit available)) failed (SaysSession (Done None) None) q
 
--- ROUTe:CLOSe and ROUTe:OPEN in the words of who sends them, and what leaves the cage
+-- ROUTe:CLOSe and ROUTe:OPEN as a client observes them, refusals, and every relay open after a failure, an abort, a
+-- reset and an eject
 pub record RelaysObey : Type 0 where
-  -- after ROUTe:CLOSe that is done every channel of its list is closed
+  -- after a ROUTe:CLOSe that the mainframe does, every channel of its list is closed
   pub closes : (p q : Panel) (chans : List Channel) (available failed : Bool)
       → IsDoneFor p (command.Channels list.Close chans) available failed q → (c : Channel) → is_among chans c ≡ true
       → is_closed q.cage.cards c ≡ true
-  -- after ROUTe:OPEN that is done every channel of its list is open
+  -- after a ROUTe:OPEN that the mainframe does, every channel of its list is open
   pub opens : (p q : Panel) (chans : List Channel) (available failed : Bool)
       → IsDoneFor p (command.Channels list.Open chans) available failed q → (c : Channel) → is_among chans c ≡ true
       → is_closed q.cage.cards c ≡ false
   -- a refusal for any other cause than a card's failure queues its error, ends its event, and does nothing else
   pub refused : (p q : Panel) (ask : AskSeen) (failed : Bool) (e : ScpiError) → e ≢ HardwareError
       → Step p ask failed (SaysSession (Refused e) None) q → q ≡ ended (erred p e)
-  -- After a card's failure, told to a session or to none, every relay is open, -240 is queued, and QUEStionable
-  -- condition bit 9 is set. It is told only where a card failed.
+  -- After an answer that reports a card's failure, to a session or to none, every relay is open, -240 is queued, and
+  -- QUEStionable condition bit 9 is set. An answer reports a failure only where a card failed.
   pub failed : (p q : Panel) (ask : AskSeen) (failed : Bool) (answer : AnswerSeen) → tells_failure answer ≡ true
       → Step p ask failed answer q → (failed ≡ true) × IsAfterCardFault p q
   -- after ABORt and *RST no scan runs and every relay is open
@@ -157,19 +159,19 @@ pub record RelaysObey : Type 0 where
       → IsDoneFor p (command.Plain plain.Abort) available failed q → IsAtRest q
   pub reset : (p q : Panel) (available failed : Bool)
       → IsDoneFor p (command.Plain plain.Reset) available failed q → IsAtRest q
-  -- after a card is ejected while a scan runs too
+  -- so too after a card is ejected while a scan runs
   pub stopped : (p q : Panel) (slot : ℕ) (failed : Bool) (card : Account) → is_running p ≡ true
       → Step p (AskEject slot) failed (SaysEjected card) q → IsAtRest q
   -- an ejected card has no relay closed
   pub ejected : (p q : Panel) (slot : ℕ) (failed : Bool) (card : Account)
       → Step p (AskEject slot) failed (SaysEjected card) q → (k : ℕ) → closed_at card.closed k ≡ false
 
--- an answer that tells of no want of memory
+-- an answer that reports no lack of memory
 abbrev pub IsPlain : AnswerSeen → Type 0
 IsPlain (SaysSession (Refused e) work) = e ≢ OutOfMemory
 IsPlain answer = Unit {0}
 
--- nor of a key of a lock that found no memory
+-- nor of memory for the key of a lock
 abbrev pub KeepsKey : Panel → AskSeen → AnswerSeen → Type 0
 KeepsKey p (AskSession ask) (SaysSession answer work) = FindsKey p.sessions ask answer
 KeepsKey p ask answer = Unit {0}
@@ -179,7 +181,7 @@ abbrev pub failures_in : Option Account → Option ℕ
 failures_in None = None
 failures_in (Some card) = Some card.failures
 
--- What came of the cards in a call: nothing where none failed; else how often each has failed, after the call.
+-- The cards' failures in a call: nothing where none failed; else how often each has failed, after the call.
 abbrev pub FailuresAfter : Type 0
 FailuresAfter = Option (List (Option ℕ))
 
@@ -187,15 +189,10 @@ abbrev pub failures_after : Bool → Accounts → FailuresAfter
 failures_after false cards = None
 failures_after true cards = Some (map failures_in cards)
 
--- whether an answer is the word of a card that is sure of its relays, which is the card's own and no part of the state
-abbrev pub says_sure : AnswerSeen → Bool
-says_sure (SaysSession answer work) = tells_surety answer
-says_sure answer = false
-
--- Where memory suffices, an ask has one answer and leaves one state for what comes of the cards: whether one failed in
--- the call, and if so, how often each has failed after it; and whether a card that is asked says that it is sure.
+-- Where memory suffices, an ask has one answer and leaves one state for what the cards do: whether one failed in the
+-- call, and if so, how often each has failed after it; and whether the cards that it asks say that they are sure.
 abbrev pub StepIsDetermined : Type 0
 StepIsDetermined = (p q q' : Panel) (ask : AskSeen) (f f' : Bool) (a a' : AnswerSeen)
     → Step p ask f a q → Step p ask f' a' q' → failures_after f q.cage.cards ≡ failures_after f' q'.cage.cards
-    → says_sure a ≡ says_sure a' → IsPlain a → IsPlain a' → KeepsKey p ask a → KeepsKey p ask a'
+    → leaves_open p ask a ≡ leaves_open p ask a' → IsPlain a → IsPlain a' → KeepsKey p ask a → KeepsKey p ask a'
     → (a ≡ a') × (q ≡ q')

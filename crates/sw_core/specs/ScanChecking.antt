@@ -1,5 +1,5 @@
--- Why no scan may begin now: what DIAGnostic:SCAN:CHECk? tells (own).
-use Rattle.std.specs.Prelude.{ℕ, ◌==◌, nat_lt, Bool, not, List, [], ◌∷◌, ◌++◌, length, codes, decimal}
+-- Why no scan may begin now: the answer to DIAGnostic:SCAN:CHECk? (own).
+use Rattle.std.specs.Prelude.{ℕ, ◌==◌, nat_lt, List, [], ◌∷◌, ◌++◌, length, codes, decimal}
 use Rattle.std.specs.Prelude.{Option, Some, None, is_some, if◌then◌else◌}
 use Rattle.sw_base.specs.Layout.{Channel, Layout, slot_at, group_of, has_meter}
 use Rattle.sw_channel.specs.Positions.{Position, is_among}
@@ -9,7 +9,7 @@ use Rattle.sw_trigger.specs.Counts.{bound_of, readings_of}
 use Rattle.sw_verify.specs.declared.refusal.Refusal.{Refusal}
 use Rattle.sw_verify.specs.declared.refusal.Refusal.TheVariants.{EmptyList, NoChannel, NoMeter, GroupClash}
 use Rattle.sw_verify.specs.declared.refusal.Refusal.TheVariants.{TooManyReadings}
-use Rattle.sw_verify.specs.declared.snapshot.Snapshot.{Snapshot}
+use Rattle.sw_verify.specs.Setup.{running}
 use Rattle.sw_verify.specs.Check.{refusal_number, refusal_name}
 use Rattle.sw_cage.specs.Cage.{cage_layout}
 use Rattle.sw_cage.specs.Channels.{closed_list}
@@ -50,7 +50,7 @@ abbrev pub first_blocked : Layout → List Channel → List Position → Option 
 first_blocked layout closed [] = None
 first_blocked layout closed (p ∷ ps) = or_next (first_in layout closed p) (first_blocked layout closed ps)
 
--- ---- what is told
+-- ---- the answer's text
 
 -- `s!c`
 abbrev pub written : Channel → List ℕ
@@ -92,33 +92,31 @@ counted_text s =
     if nat_lt s.points (readings_of s) then refused_text TooManyReadings (crowded_words (readings_of s) s.points)
     else accepted_text s
 
-abbrev pub blocked_text : Option Blocked → Snapshot → List ℕ
-blocked_text (Some blocked) s = refused_text GroupClash (blocked_words s.layout blocked)
-blocked_text None s = counted_text s.settings
+abbrev pub blocked_text : Option Blocked → SettingsSeen → Layout → List ℕ
+blocked_text (Some blocked) s layout = refused_text GroupClash (blocked_words layout blocked)
+blocked_text None s layout = counted_text s
 
-abbrev pub missing_text : Option Channel → Snapshot → List ℕ
-missing_text (Some c) s = refused_text NoChannel (missing_words c)
-missing_text None s =
-    if has_meter s.layout s.settings.meter
-    then blocked_text (first_blocked s.layout s.closed (used_of s.settings)) s
-    else refused_text NoMeter (unmeasured_words s.settings.meter)
+abbrev pub missing_text : Option Channel → SettingsSeen → Layout → List Channel → List ℕ
+missing_text (Some c) s layout closed = refused_text NoChannel (missing_words c)
+missing_text None s layout closed =
+    if has_meter layout s.meter
+    then blocked_text (first_blocked layout closed (used_of s)) s layout
+    else refused_text NoMeter (unmeasured_words s.meter)
 
--- of what a scan would begin from
-abbrev pub ready_text : Snapshot → List ℕ
-ready_text s =
-    if length s.settings.list == 0 then refused_text EmptyList (codes "nothing is listed (ROUTe:SCAN)")
-    else missing_text (first_missing s.layout (used_of s.settings)) s
+-- of a scan of these settings, with these cards, where these channels are closed
+abbrev pub ready_text : SettingsSeen → Layout → List Channel → List ℕ
+ready_text s layout closed =
+    if length s.list == 0 then refused_text EmptyList (codes "nothing is listed (ROUTe:SCAN)")
+    else missing_text (first_missing layout (used_of s)) s layout closed
 
--- Why INITiate would be refused now, the first cause alone; where it would be taken, what its scan awaits and reads.
+-- Why INITiate would be refused now, the first cause alone; where it would be taken, what its scan awaits and reads. Of
+-- a program that is on only that it is.
 abbrev pub scan_check_text : Panel → List ℕ
 scan_check_text p =
     if is_running p then quoted (codes "a scan runs") []
-    else if is_some (slot_at p.cage.out p.settings.meter)
-    then quoted (codes "the meter of slot " ++ (decimal p.settings.meter ++ codes " is out")) []
+    else if is_some (running p.settings.program) then quoted (codes "a program is on") []
+    else if is_some (slot_at p.cage.out p.settings.scan.meter)
+    then quoted (codes "the meter of slot " ++ (decimal p.settings.scan.meter ++ codes " is out")) []
     else if nat_lt p.cage.number last_number
-    then ready_text (record {
-      settings = p.settings;
-      layout = cage_layout p.cage;
-      closed = closed_list p.cage.cards;
-    })
+    then ready_text p.settings.scan (cage_layout p.cage) (closed_list p.cage.cards)
     else quoted (codes "no number is left for a scan") []

@@ -1,5 +1,4 @@
--- What a session asks of its seat and of the locks, and what it is answered (IVI-6.1 HiSLIP; what a clear drops is
--- own).
+-- A session's asks of its seat and of the locks, and their answers (IVI-6.1 HiSLIP; what a clear drops is own).
 use Rattle.std.specs.Prelude.{◌≡◌, ℕ, ◌⊎◌, Bool, true, false, not, List, Option, None, Some, is_some}
 use Rattle.sw_base.specs.Layout.{slot_at}
 use Rattle.sw_base.specs.Limits.{most_sessions}
@@ -15,7 +14,7 @@ use Rattle.sw_core.specs.declared.ask.SessionAnswer.TheVariants.{Done, Missed, M
 use Rattle.sw_core.specs.declared.sessions.Seat.{Seat}
 use Rattle.sw_core.specs.Sessions.{SessionsSeen, seat_of, with_seat}
 
--- who asks
+-- the session that asks, or none
 abbrev pub asker_of : SessionAsk → Option Sid
 asker_of Ask.Join = None
 asker_of (Ask.Attach number) = None
@@ -48,7 +47,7 @@ is_dropped (Ask.Fault sid e) = true
 is_dropped (Ask.Lock sid key) = true
 is_dropped ask = is_shut_out ask
 
--- what is asked of the seat or of the locks alone
+-- an ask of the seat or of the locks alone
 abbrev pub is_seats : SessionAsk → Bool
 is_seats (Ask.Attached sid) = true
 is_seats (Ask.Leave sid) = true
@@ -92,14 +91,14 @@ Locks l number key code m =
     ((code ≡ 1) × Replies l number key Reply.Granted m)
     ⊎ (((code ≡ 3) × Replies l number key Reply.Wrong m) ⊎ ((code ≡ 3) × MayLackMemory l number key × (m ≡ l)))
 
--- an ask for a lock: it is held where the lock is not to be had now
+-- an ask for a lock: the mainframe holds it while the lock is not free for the session
 abbrev pub StepLock : SessionsSeen → Sid → List ℕ → SessionAnswer → SessionsSeen → Type 0
 StepLock s sid key (Lock code) t = Locks s.locks sid.number key code t.locks × (t.seats ≡ s.seats)
 StepLock s sid key (Hold back) t =
     Replies s.locks sid.number key Reply.NotNow t.locks × (back ≡ Ask.Lock sid key) × (t ≡ s)
 StepLock s sid key answer t = ⊥
 
--- The answer tells of no want of memory: a lock is no error while its key is due and may find none.
+-- The answer reports no lack of memory: a lock is no error while its key is due and may find none.
 abbrev pub FindsKey : SessionsSeen → SessionAsk → SessionAnswer → Type 0
 FindsKey s (Ask.Lock sid key) (Lock code) = code ≡ 3 → MayLackMemory s.locks sid.number key → ⊥
 FindsKey s ask answer = Unit {0}

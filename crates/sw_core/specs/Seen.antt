@@ -1,4 +1,4 @@
--- What is asked and answered as plain data: a card stands in it by its account.
+-- Asks and answers as plain data: a card appears as its account.
 use Rattle.std.specs.Prelude.{◌≡◌, ℕ, ◌-◌, Bool, false, ◌||◌, is_err, Option, None, Some, slice_set}
 use Rattle.sw_card.specs.Account.{Account, of_meter}
 use Rattle.sw_cage.specs.Accounts.{Accounts}
@@ -63,7 +63,7 @@ answer_seen Answer.Failed = SaysFailed
 answer_seen (Answer.Back done) = SaysBack
 answer_seen (Answer.Worn ask) = SaysWorn
 
--- a card or an ask that is handed back is the one that came
+-- a card or an ask that the mainframe gives back is the one that came
 abbrev pub HandsBack : {R M : _} → Ask R M → Answer R M → Type 0
 HandsBack (Ask.Install slot card) (Answer.NotInstalled refusal back) = back ≡ card
 HandsBack (Ask.Finished done) (Answer.Back back) = back ≡ done
@@ -75,14 +75,14 @@ abbrev pub with_meter : Accounts → FinishedSeen → Accounts
 with_meter cards done = slice_set cards (done.slot - 1) (Some (of_meter done.meter))
 
 -- A card failed in the call: a card that stayed in its slot counts other failures than before; or the scan took the
--- return of a meter that had measured in vain.
+-- return of a meter whose measurement had failed.
 abbrev pub failed_in : AskSeen → AnswerSeen → Accounts → Accounts → Bool
 failed_in (AskFinished done) SaysBack old new = false
 failed_in (AskFinished done) SaysMissed old new = false
 failed_in (AskFinished done) answer old new = is_err done.outcome || any_failed (with_meter old done) new
 failed_in ask answer old new = any_failed old new
 
--- a meter that comes back tells what stands in its own account; nothing else that is asked tells of one
+-- a meter that comes back reports what its own account says; no other ask brings a report of a meter
 abbrev pub IsOwnAccount : AskSeen → Type 0
 IsOwnAccount (AskFinished done) = IsTold done
 IsOwnAccount ask = Unit {0}

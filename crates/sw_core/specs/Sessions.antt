@@ -8,7 +8,7 @@ use Rattle.sw_hislip.specs.LockRules.{IsSession, IsOrderly}
 use Rattle.sw_core.specs.declared.ask.Sid.{Sid}
 use Rattle.sw_core.specs.declared.sessions.Seat.{Seat}
 
--- of each session number, from 1 on, the session that has it; and who holds the locks
+-- of each session number, from 1 on, the session that has it; and the table of locks
 pub record SessionsSeen : Type 0 where
   pub seats : List (Option Seat)
   pub locks : LockTable
@@ -16,7 +16,8 @@ pub record SessionsSeen : Type 0 where
 abbrev pub nobody : SessionsSeen
 nobody = record { seats = replicate most_sessions None; locks = no_locks }
 
--- a session that has joined after so many events: until it tells otherwise it takes messages of the greatest length
+-- a session that joined after this number of events: until it notes another size, it takes messages of the greatest
+-- length
 abbrev pub fresh_seat : ℕ → Seat
 fresh_seat events = record { joined = events; attached = false; size = most_bytes; clearing = false }
 
@@ -35,7 +36,7 @@ abbrev pub seat_in : Option Seat → Seat
 seat_in None = fresh_seat 0
 seat_in (Some seat) = seat
 
--- what is known of the session with this number
+-- the seat of the session with this number
 abbrev pub seat_of : SessionsSeen → ℕ → Seat
 seat_of s number = seat_in (slot_at s.seats number)
 
@@ -50,12 +51,13 @@ pub record IsLeastFree (s : SessionsSeen) (number : ℕ) : Type 0 where
   pub free : slot_at s.seats number ≡ None
   pub below : (k : ℕ) → 1 ≤ k → k < number → slot_at s.seats k ≢ None
 
--- What is so of the sessions at all times: the locks are in order, and whoever holds one is joined.
+-- What holds of the sessions at all times: the locks are in order, and each session that holds one is joined.
 pub record AreSeated (s : SessionsSeen) : Type 0 where
   -- there is a seat for each session number
   pub seats : length s.seats ≡ most_sessions
-  -- all that share a lock have one key, and beside the exclusive lock only those share one with whom its holder does
+  -- all sessions that share a lock have one key, and beside the exclusive lock only sessions that its holder shares
+  -- with hold one
   pub locks : IsOrderly s.locks
-  -- whoever holds the exclusive lock or shares one has a seat
+  -- each session that holds the exclusive lock or shares one has a seat
   pub joined : (number : ℕ) → IsSession number → holds s.locks number ≡ true
       → is_some (slot_at s.seats number) ≡ true

@@ -1,14 +1,11 @@
--- What is told of a slot: its card, the groups of the card's channels, and whether the card is sure of its relays (own;
--- SYSTem:CTYPe? as other switch mainframes have it).
-use Rattle.std.specs.Prelude.{ℕ, Bool, true, false, not, List, [], ◌++◌, length, map, decimal, codes, Option, Some, None}
+-- The answers to the queries of a slot: its card, the groups of the card's channels, and whether the card is sure of
+-- its relays (own; SYSTem:CTYPe? as other switch mainframes have it).
+use Rattle.std.specs.Prelude.{ℕ, Bool, true, false, not, ◌||◌, List, [], ◌++◌, length, map, decimal, codes, Option, Some, None}
 use Rattle.std.specs.Prelude.{if◌then◌else◌}
 use Rattle.std.specs.List.{join_with_byte}
 use Rattle.sw_base.specs.Layout.{slot_at}
 use Rattle.sw_card.specs.Account.{Account, is_meter}
 use Rattle.sw_cage.specs.declared.job.Ticket.{Ticket}
-use Rattle.sw_lex.specs.Apart.{same_word}
-use Rattle.sw_core.specs.declared.ask.SessionAnswer.{SessionAnswer}
-use Rattle.sw_core.specs.declared.ask.SessionAnswer.TheVariants.{Done}
 use Rattle.sw_core.specs.Answers.{four_fields, revision}
 use Rattle.sw_core.specs.Panel.{Panel}
 
@@ -19,7 +16,7 @@ abbrev pub kind_word : Account → List ℕ
 kind_word card = if is_meter card then codes "METER" else codes "RELAY" ++ decimal (length card.groups)
 
 -- a card's kind and serial number; an empty slot has zeros. The serial number of a meter that is out to measure is not
--- available, which is told as 0 (IEEE 488.2, 10.14).
+-- available, written as 0 (IEEE 488.2, 10.14).
 abbrev pub card_text : Option Account → Option Ticket → List ℕ
 card_text (Some card) out = four_fields (kind_word card) (decimal card.serial) revision
 card_text None (Some ticket) = four_fields (codes "METER") (codes "0") revision
@@ -48,21 +45,16 @@ groups_text slot p = join_with_byte 44 (map decimal (groups_of (slot_at p.cage.c
 
 -- ---- SYSTem:CTYPe:STATe?
 
--- what a card says of its relays: that they stand as its account says, or that it can't tell
+-- what a card says of its relays: that they are as its account says, or that it is not sure
 abbrev pub surety_word : Bool → List ℕ
 surety_word true = codes "SURE"
 surety_word false = codes "UNS"
 
--- what is known without asking the card: an empty slot is empty, and a meter, in its slot or out, has no relays
-abbrev pub state_known : Option Account → Option Ticket → Option (List ℕ)
-state_known None None = Some (codes "EMPT")
-state_known None (Some ticket) = Some (surety_word true)
-state_known (Some card) out = if is_meter card then Some (surety_word true) else None
+-- the answer by whether the card is sure: an empty slot is empty, and a meter, in its slot or out, has no relays
+abbrev pub card_state : Option Account → Option Ticket → Bool → List ℕ
+card_state None None sure = codes "EMPT"
+card_state None (Some ticket) sure = surety_word true
+card_state (Some card) out sure = surety_word (is_meter card || sure)
 
-abbrev pub known_state : ℕ → Panel → Option (List ℕ)
-known_state slot p = state_known (slot_at p.cage.cards slot) (slot_at p.cage.out slot)
-
--- whether an answer is the word of a card that is sure
-abbrev pub tells_surety : SessionAnswer → Bool
-tells_surety (Done (Some text)) = same_word text (surety_word true)
-tells_surety answer = false
+abbrev pub state_text : ℕ → Panel → Bool → List ℕ
+state_text slot p sure = card_state (slot_at p.cage.cards slot) (slot_at p.cage.out slot) sure

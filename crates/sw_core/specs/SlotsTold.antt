@@ -1,4 +1,4 @@
--- What the queries of a slot tell is what scans are checked by.
+-- The answers to the queries of a slot are the layout by which the check judges scans.
 use Rattle.std.specs.Prelude.{◌≡◌, ℕ, true, List, ◌++◌, length, decimal, codes, Option, Some, None}
 use Rattle.sw_base.specs.Layout.{SlotContents, relays, meter, slot_at}
 use Rattle.sw_cage.specs.Cage.{cage_layout}
@@ -13,8 +13,8 @@ contents_word None = codes "0"
 contents_word (Some meter) = codes "METER"
 contents_word (Some (relays groups)) = codes "RELAY" ++ decimal (length groups)
 
--- Of every good mainframe, whether a meter is out or in: the kind that is told, with its channels, is that of the
--- layout, and the groups that are told are the layout's.
+-- On every good mainframe, with a meter out or in: the answered kind, with its channels, is that of the layout, and the
+-- answered groups are the layout's.
 pub record SlotsAreTold : Type 0 where
   pub kind : (p : Panel) (slot : ℕ) → IsGoodPanel p → (serial version : List ℕ)
       × (kind_text slot p ≡ four_fields (contents_word (slot_at (cage_layout p.cage) slot)) serial version)

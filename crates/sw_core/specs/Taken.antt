@@ -1,4 +1,4 @@
--- What a happening comes to by what is answered: whether the scan took it, and the readings after it.
+-- A happening's effect by its answer: whether the scan took it, and the readings after it.
 use Rattle.std.specs.Prelude.{◌≡◌, ℕ, Bool, true, false, List, []}
 use Rattle.sw_base.specs.Layout.{Channel}
 use Rattle.sw_base.specs.declared.error.ScpiError.TheVariants.{HardwareError}
@@ -15,7 +15,7 @@ use Rattle.sw_core.specs.Seen.{AskSeen, AskSession, AskExternal, AskElapsed, Ask
 use Rattle.sw_core.specs.Seen.{AnswerSeen, SaysSession, SaysTaken, SaysFailed}
 use Rattle.sw_core.specs.Action.{Effect, Triggers, Action, AtOnce, BetweenScans, AfterScan, action_of, is_trigger}
 
--- 1 for what is answered where the scan took it: done, or a card failed on the way
+-- 1 for an answer that says that the scan took it: done, or a card failed on the way
 abbrev pub went_on : SessionAnswer → ℕ
 went_on (Done text) = 1
 went_on (Refused HardwareError) = 1
@@ -45,7 +45,7 @@ took (AskElapsed ticket) answer = was_taken answer
 took (AskFinished done) answer = was_taken answer
 took ask answer = 0
 
--- what is offered to the scan: a trigger, the end of a pause, or a meter's return
+-- asks that the cage offers to the scan: a trigger, the end of a pause, or a meter's return
 abbrev pub is_happening : AskSeen → Bool
 is_happening (AskSession (Ask.Unit sid unit available)) = is_trigger unit
 is_happening (AskSession (Ask.Bus sid)) = true

@@ -23,15 +23,15 @@ pub struct AnswerText {
 pub enum AnswerForm {
     /// Its bytes.
     Bytes(Sequence<u8>),
-    /// A whole number, whose text is its decimal digits.
+    /// A whole number; its text is its decimal digits.
     Number(u64),
-    /// Microseconds, whose text is seconds with six decimals.
+    /// Microseconds; their text is seconds with six decimals.
     Seconds(u64),
     /// A text that is always the same.
     Fixed(&'static [u8]),
     /// An entry of the error queue, or that it has none.
     Entry(Option<ScpiError>),
-    /// Readings, whose text has commas between them.
+    /// Readings; their text has commas between them.
     Readings(ReadingsText),
 }
 

@@ -1,4 +1,4 @@
-//! What is asked of the mainframe, and what it answers.
+//! The mainframe's asks, and its answers.
 
 use crate::answer_text::AnswerText;
 use sw_base::{ScpiError, Sequence};
@@ -7,8 +7,8 @@ use sw_card::{Card, Meter, Relay};
 use sw_lex::Command;
 use sw_verify::{BoxedSnapshot, Plan};
 
-/// A session: its number, 1 to `SESSIONS`, and the number of events after its Join, which tells it from an earlier
-/// session of that number.
+/// A session: its number, 1 to `SESSIONS`, and the number of events after its Join, which distinguishes it from an
+/// earlier session of that number.
 #[derive(Clone, Copy, Debug, PartialEq, Eq)]
 pub struct Sid {
     /// The session's number.
@@ -17,20 +17,20 @@ pub struct Sid {
     pub joined: u64,
 }
 
-/// What a session asks. It carries no card.
-#[derive(Debug, Drop)]
+/// A session's ask. It carries no card.
+#[derive(Drop)]
 pub enum SessionAsk {
     /// To be one of the sessions.
     Join,
     /// To be the second channel of the session with this number.
     Attach(u8),
-    /// Whether the session's second channel stands.
+    /// Whether the session has its second channel.
     Attached(Sid),
-    /// To be none of the sessions any more. Its locks are freed.
+    /// To leave the sessions. The mainframe frees its locks.
     Leave(Sid),
     /// To note the size of a message that the session takes, in bytes.
     Size(Sid, u64),
-    /// What size was noted last.
+    /// The size that was noted last.
     MaxSize(Sid),
     /// To drop what the session asks from now on.
     Clear(Sid),
@@ -40,11 +40,11 @@ pub enum SessionAsk {
     Lock(Sid, Sequence<u8>),
     /// To free a lock.
     Release(Sid),
-    /// Who holds locks.
+    /// Whether a session holds the exclusive lock, and how many sessions hold a lock.
     LockInfo(Sid),
-    /// To carry out a command. The flag says whether the message that it stands in has answered before.
+    /// To carry out a command. The flag says whether its program message has answered before.
     Unit(Sid, Command, bool),
-    /// To queue an error that was found outside.
+    /// To queue an error that the session found outside the mainframe.
     Fault(Sid, ScpiError),
     /// To give a bus trigger, as the interface's trigger message does.
     Bus(Sid),
@@ -54,8 +54,8 @@ pub enum SessionAsk {
     Start(Sid, Plan),
 }
 
-/// What a session is answered. It carries no card.
-#[derive(Debug, Drop)]
+/// The answer to a session. It carries no card.
+#[derive(Drop)]
 pub enum SessionAnswer {
     /// It is this session now.
     Joined(Sid),
@@ -63,46 +63,47 @@ pub enum SessionAnswer {
     Full,
     /// No such session is joined.
     Stranger,
-    /// The session is being cleared: the ask was dropped.
+    /// The session is being cleared: the mainframe dropped the ask.
     Broken,
-    /// It was done. A query's answer comes with it.
+    /// The mainframe did it. A query's answer comes with it.
     Done(Option<AnswerText>),
     /// It is not so yet.
     Missed,
     /// The size that was noted last, in bytes.
     Max(u64),
-    /// What became of a lock, by the code of HiSLIP's response (IVI-6.1 HiSLIP, lock transaction): 1 where it was
-    /// granted or the exclusive one freed, 2 where the shared one was freed, 3 for an error or where none was held.
+    /// The outcome of a lock's ask, by the code of HiSLIP's response (IVI-6.1 HiSLIP, lock transaction): 1 where it was
+    /// granted or the exclusive one freed, 2 where the shared one was freed, 3 for an error or where the session held
+    /// none.
     Lock(u8),
-    /// Whether the exclusive lock is held, and how many sessions hold a lock.
+    /// Whether a session holds the exclusive lock, and how many sessions hold a lock.
     Info(bool, u8),
     /// What a scan would begin from, and the number of the last scan that began.
     Snapshot(BoxedSnapshot, u64),
-    /// It was refused, for this error.
+    /// The mainframe refused it, for this error.
     Refused(ScpiError),
-    /// It can't be done yet: it is to be asked again after a wait.
+    /// The mainframe can't do it yet: the session asks it again after a wait.
     Hold(SessionAsk),
     /// The mainframe has numbered all the events that it can.
     Worn(SessionAsk),
 }
 
-/// What is to be carried out outside the mainframe before its scan goes on.
+/// Work outside the mainframe that its scan awaits before it continues.
 #[derive(Drop)]
 pub enum Work<M: Meter> {
     /// A measurement.
     Measure(Job<M>),
-    /// A pause of so many microseconds, whose end is told under this ticket.
+    /// A pause of this many microseconds; the ask `Elapsed` with this ticket ends it.
     Pause(Ticket, u64),
 }
 
-/// What is asked of the mainframe.
+/// An ask of the mainframe.
 #[derive(Drop)]
 pub enum Ask<R: Relay, M: Meter> {
-    /// What a session asks.
+    /// An ask of a session, or to become one.
     Session(SessionAsk),
     /// To take a card into a slot.
     Install(u8, Card<R, M>),
-    /// To hand the card of a slot out.
+    /// To take the card out of a slot.
     Eject(u8),
     /// The external trigger came.
     External,
@@ -112,14 +113,14 @@ pub enum Ask<R: Relay, M: Meter> {
     Finished(Finished<M>),
 }
 
-/// What the mainframe answers.
+/// An answer of the mainframe.
 #[derive(Drop)]
 pub enum Answer<R: Relay, M: Meter> {
-    /// What a session is answered, and the work that its scan awaits now.
+    /// The answer to a session, and the work that its scan awaits now.
     Session(SessionAnswer, Option<Work<M>>),
     /// The card is in its slot.
     Installed,
-    /// The card was not taken in, and is handed back.
+    /// The slot did not take this card, which comes back.
     NotInstalled(InstallRefusal, Card<R, M>),
     /// The card, with its relays open.
     Ejected(Card<R, M>),
@@ -127,11 +128,11 @@ pub enum Answer<R: Relay, M: Meter> {
     NotEjected(EjectRefusal),
     /// The scan took it, and awaits this work now.
     Taken(Option<Work<M>>),
-    /// No scan takes it. A meter that came with it is back in its slot.
+    /// No scan takes it. A meter that it brought is back in its slot.
     Missed,
     /// The scan took it and is over, for a card failed.
     Failed,
-    /// The meter is not out under its ticket here, and is handed back.
+    /// The meter is not out under its ticket here, and comes back.
     Back(Finished<M>),
     /// The mainframe has numbered all the events that it can.
     Worn(Ask<R, M>),

@@ -1,4 +1,4 @@
-//! Who asks, and what still acts when no more events can be numbered.
+//! The session of an ask, and the asks that still act when the mainframe can number no more events.
 
 ghost use Rattle.std.specs.Prelude.{◌≡◌, Bool, false};
 ghost use Rattle.sw_core.specs.Seen.{ask_seen, answer_seen, AskSession, HandsBack};
@@ -36,7 +36,7 @@ pub fn asker(ask: &SessionAsk) -> Option<Sid>
     }
 }
 
-/// Whether a session's ask is dropped while the session is being cleared.
+/// Whether the mainframe drops a session's ask while the session is being cleared.
 pub fn is_dropped(ask: &SessionAsk) -> bool
     ensures { result ≡ is_dropped ask.now }
 {
@@ -80,7 +80,7 @@ pub fn awaits_end(command: &Command) -> bool
     }
 }
 
-/// Whether a session's ask still acts when no more events can be numbered.
+/// Whether a session's ask still acts when the mainframe can number no more events.
 pub fn session_acts_unnumbered(ask: &SessionAsk) -> bool
     ensures { result ≡ acts_unnumbered (AskSession ask.now) }
 {
@@ -90,7 +90,7 @@ pub fn session_acts_unnumbered(ask: &SessionAsk) -> bool
     }
 }
 
-/// Whether a command is ABORt, which still acts when no more events can be numbered.
+/// Whether a command is ABORt, which still acts when the mainframe can number no more events.
 pub fn is_abort(command: &Command) -> bool
     ensures { (sid : Sid) (available : Bool)
         → result ≡ acts_unnumbered (AskSession (Unit sid command.now available)) }
@@ -101,7 +101,7 @@ pub fn is_abort(command: &Command) -> bool
     }
 }
 
-/// Whether an ask still acts when no more events can be numbered.
+/// Whether an ask still acts when the mainframe can number no more events.
 pub fn acts_unnumbered<R: Relay, M: Meter>(ask: &Ask<R, M>) -> bool
     ensures { result ≡ acts_unnumbered (ask_seen ask.now) }
 {
@@ -112,44 +112,51 @@ pub fn acts_unnumbered<R: Relay, M: Meter>(ask: &Ask<R, M>) -> bool
     }
 }
 
-/// Hands a session's ask back that can't be numbered. Out of line, as `hold`, so that a caller leaves its ask in place.
+/// Answers `Worn` with a session's ask that the mainframe can't number. Out of line, as `hold`, so that a caller leaves
+/// its ask in place.
 #[inline(never)]
 pub fn hand_back(ask: SessionAsk, answer: &mut SessionAnswer)
     ensures { answer.new ≡ Worn ask }
 {
-    *answer = SessionAnswer::Worn(ask);
+    put(SessionAnswer::Worn(ask), answer);
 }
 
-/// Hands a unit's command back that can't be numbered, as `hand_back` does.
+/// Answers `Worn` with the ask of a unit that the mainframe can't number, as `hand_back` does.
 #[inline(never)]
 pub fn hand_unit_back(sid: Sid, command: Command, available: bool, answer: &mut SessionAnswer)
     ensures { answer.new ≡ Worn (Unit sid command available) }
 {
-    *answer = SessionAnswer::Worn(SessionAsk::Unit(sid, command, available));
+    put(
+        SessionAnswer::Worn(SessionAsk::Unit(sid, command, available)),
+        answer,
+    );
 }
 
-/// Hands a unit's command back that is held, as `hold` does.
+/// Answers `Hold` with the ask of a unit that the mainframe holds, as `hold` does.
 #[inline(never)]
 pub fn hold_unit(sid: Sid, command: Command, available: bool, answer: &mut SessionAnswer)
     ensures { answer.new ≡ Hold (Unit sid command available) }
 {
-    *answer = SessionAnswer::Hold(SessionAsk::Unit(sid, command, available));
+    put(
+        SessionAnswer::Hold(SessionAsk::Unit(sid, command, available)),
+        answer,
+    );
 }
 
-/// Hands a session's ask back that is held.
+/// Answers `Hold` with a session's ask that the mainframe holds.
 #[inline(never)]
 pub fn hold(ask: SessionAsk, answer: &mut SessionAnswer)
     ensures { answer.new ≡ Hold ask }
 {
-    *answer = SessionAnswer::Hold(ask);
+    put(SessionAnswer::Hold(ask), answer);
 }
 
-/// Answers one who is no session.
+/// Answers `Stranger`, to an ask of no joined session.
 #[inline(never)]
 pub fn turn_away(answer: &mut SessionAnswer)
     ensures { answer.new ≡ Stranger }
 {
-    *answer = SessionAnswer::Stranger;
+    put(SessionAnswer::Stranger, answer);
 }
 
 /// Answers that a clear drops the ask.
@@ -157,7 +164,7 @@ pub fn turn_away(answer: &mut SessionAnswer)
 pub fn break_off(answer: &mut SessionAnswer)
     ensures { answer.new ≡ Broken }
 {
-    *answer = SessionAnswer::Broken;
+    put(SessionAnswer::Broken, answer);
 }
 
 /// Leaves an answer where the caller looks.
@@ -168,7 +175,7 @@ pub fn put(told: SessionAnswer, answer: &mut SessionAnswer)
     *answer = told;
 }
 
-/// Hands an ask back that can't be numbered.
+/// The answer `Worn`, with an ask that the mainframe can't number.
 #[inline(never)]
 pub fn unnumbered<R: Relay, M: Meter>(ask: Ask<R, M>) -> Answer<R, M>
     requires { acts_unnumbered (ask_seen ask) ≡ false }

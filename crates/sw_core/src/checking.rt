@@ -15,7 +15,7 @@ use sw_channel::print_list;
 use sw_verify::Layout;
 
 impl<R: Relay, M: Meter> Core<R, M> {
-    /// Tells why the channels may not be closed now, or `"ok"`.
+    /// Answers why the channels may not be closed now, or `"ok"`.
     #[inline(never)]
     pub(crate) fn check_closing(&self, alloc: Global, chans: &[Chan]) -> SessionAnswer
         ensures { StepText self.now (check_text chans.now self.now) self.now.status Bool.false result self.now }

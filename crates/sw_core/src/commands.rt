@@ -1,4 +1,4 @@
-//! Commands: what each family comes to.
+//! Commands: what each family does.
 
 ghost use Rattle.std.specs.Prelude.{◌≡◌, ◌&&◌, None, false};
 ghost use Rattle.sw_cage.specs.Change.{any_failed};
@@ -17,9 +17,9 @@ use sw_card::{Meter, Relay};
 use sw_lex::{Channels, Command, Plain, Setting, Time};
 
 impl<R: Relay, M: Meter> Core<R, M> {
-    /// Carries a command out that is offered to no scan and that nothing holds, or refuses it while a scan runs;
-    /// `available` says whether its message has answered before, so that a message is available. A command that has no
-    /// row here doesn't compile.
+    /// Carries out a command that the cage offers to no scan and that the mainframe doesn't hold, or refuses it while a
+    /// scan runs; `available` says whether its message has answered before, so that a message is available. A command
+    /// that has no row here doesn't compile.
     #[tactic(auto, using(crate::proofs::CallsLemmas::failed_same))]
     #[inline(never)]
     pub(crate) fn command(
@@ -43,6 +43,7 @@ impl<R: Relay, M: Meter> Core<R, M> {
             Command::Continuous(true) => conflict(),
             Command::Continuous(false) => SessionAnswer::Done(None),
             Command::Channels(ask, chans) => self.channels(alloc, ask, chans.as_slice()),
+            Command::ListingCheck(listing) => self.check_listing(alloc, listing.as_slice()),
             Command::Set(setting) => self.set(setting),
             Command::SetStatus(setting) => self.set_status(setting),
             Command::Macros(_) | Command::Macro(_) => undefined(),
@@ -104,40 +105,51 @@ impl<R: Relay, M: Meter> Core<R, M> {
             return conflict();
         }
         match setting {
-            Setting::Count(layer, n) => taken(self.settings.set_count(layer, n)),
+            Setting::Count(layer, n) => taken(self.settings.scan.set_count(layer, n)),
             Setting::Source(layer, source) => {
-                self.settings.set_source(layer, source);
+                self.settings.scan.set_source(layer, source);
                 SessionAnswer::Done(None)
             }
             Setting::Time(Time::Delay, layer, micros) => {
-                taken(self.settings.set_delay(layer, micros))
+                taken(self.settings.scan.set_delay(layer, micros))
             }
             Setting::Time(Time::Timer, layer, micros) => {
-                taken(self.settings.set_timer(layer, micros))
+                taken(self.settings.scan.set_timer(layer, micros))
             }
-            Setting::Time(Time::Settling, _, micros) => taken(self.settings.set_settling(micros)),
-            Setting::Scan(positions) => taken(self.settings.set_list(positions.into_vec())),
-            Setting::ScanMeter(slot) => taken(self.settings.set_meter(slot)),
-            Setting::Points(n) => taken(self.settings.set_points(n)),
+            Setting::Time(Time::Settling, _, micros) => {
+                taken(self.settings.scan.set_settling(micros))
+            }
+            Setting::Scan(positions) => taken(self.settings.scan.set_list(positions.into_vec())),
+            Setting::ScanMeter(slot) => taken(self.settings.scan.set_meter(slot)),
+            Setting::Points(n) => taken(self.settings.scan.set_points(n)),
+            Setting::Program(program) => {
+                self.settings.load(program.into_inner());
+                SessionAnswer::Done(None)
+            }
+            Setting::Programmed(on) => taken(self.settings.switch(on)),
+            Setting::NoProgram => {
+                self.settings.unload();
+                SessionAnswer::Done(None)
+            }
         }
     }
 }
 
-/// What is answered to what a scan that runs refuses.
+/// The answer to a command that the mainframe refuses while a scan runs.
 fn conflict() -> SessionAnswer
     ensures { result ≡ SessionAnswer.Refused ScpiError.SettingsConflict }
 {
     SessionAnswer::Refused(ScpiError::SettingsConflict)
 }
 
-/// What a command is answered that is a session's own.
+/// The answer to a command that only a session carries out.
 fn undefined() -> SessionAnswer
     ensures { result ≡ SessionAnswer.Refused ScpiError.UndefinedHeader }
 {
     SessionAnswer::Refused(ScpiError::UndefinedHeader)
 }
 
-/// What a setting's command is answered.
+/// The answer to a setting's command.
 fn taken(set: Result<(), ScpiError>) -> SessionAnswer
     ensures { TakesSetting set result }
 {

@@ -19,7 +19,7 @@ const WAITING_FOR_TRIGGER: u16 = 1 << 5;
 /// Waiting for ARM.
 const WAITING_FOR_ARM: u16 = 1 << 6;
 
-/// What OPERation tells at a pause after which a scan awaits this.
+/// OPERation's condition at a pause after which a scan awaits this.
 fn pause_bits(after: Option<Awaited>) -> u16
     ensures { result ≡ pause_bits after }
 {
@@ -29,7 +29,7 @@ fn pause_bits(after: Option<Awaited>) -> u16
     }
 }
 
-/// What OPERation tells where a scan waits at this layer.
+/// OPERation's condition where a scan waits at this layer.
 fn waiting_bits(name: LayerName) -> u16
     ensures { result ≡ waiting_bits name }
 {
@@ -40,7 +40,7 @@ fn waiting_bits(name: LayerName) -> u16
 }
 
 impl<R: Relay, M: Meter> Core<R, M> {
-    /// Queues the error of a refusal, and ends the event. What was no event changes nothing.
+    /// Queues the error of a refusal, and ends the event. An ask that was no event changes nothing.
     pub(crate) fn end_event(&mut self, answer: &Answer<R, M>)
         ensures { self.new ≡ concluded (answer_seen answer.now) self.old }
     {
@@ -70,8 +70,8 @@ impl<R: Relay, M: Meter> Core<R, M> {
         self.count_event();
     }
 
-    /// `*OPC` is done where no scan runs, OPERation tells what the scan awaits, a service request arises or not, and
-    /// the event is counted.
+    /// `*OPC` completes where no scan runs, OPERation shows what the scan awaits, a service request arises or not, and
+    /// the mainframe counts the event.
     pub(crate) fn count_event(&mut self)
         ensures { self.new ≡ ended self.old }
     {
@@ -86,7 +86,7 @@ impl<R: Relay, M: Meter> Core<R, M> {
         self.events = self.events.saturating_add(1);
     }
 
-    /// What OPERation tells of the scan that runs, if any.
+    /// OPERation's condition by the scan that runs, if any.
     fn scan_bits(&self) -> u16
         ensures { result ≡ scan_bits self.now.cage.scan }
     {

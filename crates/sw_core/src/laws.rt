@@ -9,30 +9,33 @@ ghost use Rattle.sw_core.specs.ClosingTold.{ClosingIsTold};
 ghost use Rattle.sw_core.specs.ScanTold.{ScanIsTold};
 ghost use Rattle.sw_core.specs.SlotsTold.{SlotsAreTold};
 
-/// A mainframe begins good and stays good, whatever went before: no absent channel is closed and no two closed channels
-/// clash, a scan that runs goes by the settings and has done a prefix of its agenda, which is sound, the queue holds 32
-/// errors at most, OPERation tells what the scan awaits, the locks are in order, and whoever holds one is joined.
+/// A mainframe begins good and stays good, after any asks: no absent channel is closed and no two closed channels
+/// clash, a scan that runs follows the settings and has done a prefix of its agenda, which is sound, the queue holds 32
+/// errors at most, OPERation shows what the scan awaits, the locks are in order, and each session that holds one is
+/// joined.
 pub fn mainframe_stays_good()
     ensures { StaysGood }
 {}
 
-/// Each event of every run leaves the mainframe good. The bound that is told is that of the scan that runs. A card's
-/// failure is told where one was counted, and then every relay is open and no scan runs, and it is told nowhere else.
-/// A reading that is added is the last one of the meter that came back; none is lost but by a reset and where a scan
-/// begins. A happening that no scan takes leaves the scan, its readings and every relay as they were.
+/// Each event of every run leaves the mainframe good. The bound that `DIAGnostic:SCAN:BOUNd?` answers is that of the
+/// scan that runs. An answer reports a card's failure where a card counted one, and nowhere else; then every relay is
+/// open and no scan runs. A reading that is added is the last one of the meter that came back; none is lost but by a
+/// reset and where a scan begins. A happening that no scan takes leaves the scan, its readings and every relay as they
+/// were.
 pub fn every_run_is_good()
     ensures { EveryRunIsGood }
 {}
 
-/// What was closed is closed, what was opened is open, a refusal queues its error and does nothing else; after an
-/// abort, a reset, a card's failure and an eject from a running scan no scan runs and every relay is open; an ejected
-/// card leaves with its relays open.
+/// After a ROUTe:CLOSe that the mainframe does, each channel of its list is closed; after such a ROUTe:OPEN each is
+/// open. A refusal for any other cause than a card's failure queues its error and does nothing else. After an abort, a
+/// reset, a card's failure and an eject from a running scan no scan runs and every relay is open; an ejected card
+/// leaves with its relays open.
 pub fn relays_obey()
     ensures { RelaysObey }
 {}
 
-/// Where memory suffices, an ask has one answer and leaves one state for what comes of the cards: whether one failed in
-/// the call, and if so, how often each has failed after it; and whether a card that is asked says that it is sure.
+/// Where memory suffices, an ask has one answer and leaves one state for what the cards do: whether one failed in the
+/// call, and if so, how often each has failed after it; and whether the cards that it asks say that they are sure.
 pub fn step_is_determined()
     ensures { StepIsDetermined }
 {}
@@ -47,34 +50,34 @@ pub fn every_scan_ends()
     ensures { EveryScanEnds }
 {}
 
-/// A mainframe that was made and fitted with cards, and whatever was asked of it since, is reached by a run from the
-/// opening state; so `every_run_is_good` and `every_scan_ends` hold of each run from a state that is handed on so.
+/// A run from the opening state leads to each mainframe that was made, fitted with cards and asked anything since. So
+/// `every_run_is_good` and `every_scan_ends` hold of each run from its state.
 pub fn runs_go_on()
     ensures { RunsGoOn }
 {}
 
-/// In every run, whatever others ask in between: where a snapshot was told, a plan's scan began, and a text is told for
-/// the readings of the scan whose number comes after the snapshot's, as many as that plan makes, no other scan began
-/// from the snapshot on, the scan is over, and the text is all of its readings.
+/// In every run, with any asks of other sessions in between: a session gets a snapshot, a plan's scan begins, and a
+/// text answers the readings of the scan whose number is next after the snapshot's, as many as that plan makes. Then no
+/// other scan began from the snapshot on, the scan is over, and the text is all of its readings.
 pub fn read_tells_its_scan()
     ensures { ReadTellsItsScan }
 {}
 
-/// Of every good mainframe `DIAGnostic:CLOSe:CHECk?` tells `"ok"` exactly where ROUTe:CLOSe of the same channels is
-/// refused by nothing: then it closes them, unless a card fails.
+/// On every good mainframe `DIAGnostic:CLOSe:CHECk?` answers `"ok"` exactly where nothing refuses ROUTe:CLOSe of the
+/// same channels: then it closes them, unless a card fails.
 pub fn closing_is_told()
     ensures { ClosingIsTold }
 {}
 
-/// Of every good mainframe `DIAGnostic:SCAN:CHECk?` begins with `"ok` exactly where INITiate is taken, unless memory
-/// runs out, and it names a refusal exactly where that is the first one that INITiate finds.
+/// On every good mainframe the answer to `DIAGnostic:SCAN:CHECk?` begins with `"ok` exactly where the mainframe takes
+/// INITiate, unless memory runs out. It names a refusal exactly where that is the first one that INITiate finds.
 pub fn scan_is_told()
     ensures { ScanIsTold }
 {}
 
-/// Of every good mainframe the queries of a slot tell what scans are checked by: the kind and the count of channels that
-/// `SYSTem:CTYPe?` tells are those of the layout, whether a meter is out or in, and so are the groups that
-/// `SYSTem:CTYPe:GROups?` tells.
+/// On every good mainframe the queries of a slot answer the layout by which scans are checked: the kind and the count
+/// of channels that `SYSTem:CTYPe?` answers are those of the layout, whether a meter is out or in, and so are the
+/// groups that `SYSTem:CTYPe:GROups?` answers.
 pub fn slots_are_told()
     ensures { SlotsAreTold }
 {}

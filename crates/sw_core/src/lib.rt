@@ -1,14 +1,13 @@
 //! The whole state of the mainframe, and the calls that change it: one step for each ask.
 //!
 //! The crate's contract to the layers above: `Core::apply`, and `ask`, which does its part for a session's ask and
-//! answers where the caller looks, go on as the relation `Step` of `specs/Step.antt` says, with one line for each legal
-//! pair of ask and answer;
-//! `come_back` and `elapse` do its part for a meter's return and the end of a pause, and leave the next work where the
-//! caller looks; `Core::holds` tells of a step that would change nothing. Over every run
-//! of such steps no absent channel is closed and no two closed channels clash, and a scan does a prefix of its plan's
-//! agenda and ends; the laws in `laws.rt` say so, and what closing, opening, refusing, failing and ejecting come to.
+//! answers where the caller looks, act as the relation `Step` of `specs/Step.antt` says, with one line for each legal
+//! pair of ask and answer; `come_back` and `elapse` do its part for a meter's return and the end of a pause, and leave
+//! the next work where the caller looks; `Core::holds` says that a step would change nothing. Over every run of such
+//! steps no absent channel is closed and no two closed channels clash, and a scan does a prefix of its plan's agenda
+//! and ends; the laws in `laws.rt` say so, and what closing, opening, refusing, failing and ejecting do.
 //!
-//! Not promised: that memory is there, and what a relay really does, which is its card's own word.
+//! It does not promise that memory is there, nor what a relay really does: of that it has only the card's word.
 #![tactic(auto)]
 
 mod answer_text;
@@ -18,6 +17,7 @@ mod checking;
 mod commands;
 mod event;
 mod laws;
+mod listing_check;
 mod queries;
 mod readings_text;
 mod registers;

@@ -1,24 +1,31 @@
 //! Queries that change nothing.
 
-ghost use Rattle.std.specs.Prelude.{◌≡◌, Bool, decimal};
+ghost use Rattle.std.specs.Prelude.{◌≡◌, Bool, IfOk, IfErr, None, decimal};
 ghost use Rattle.sw_channel.specs.Printing.{printed_positions};
 ghost use Rattle.sw_trigger.specs.Settings.{layer_of};
-ghost use Rattle.sw_status.specs.StatusModel.{registers_of};
-ghost use Rattle.sw_base.specs.declared.error.ScpiError.TheVariants.{DataCorruptOrStale};
-ghost use Rattle.sw_core.specs.Action.{query_text, layer_text, group_text, readings_of_scan};
+ghost use Rattle.sw_lex.specs.Block.{block_of};
+ghost use Rattle.sw_code.specs.Listing.{listing_of};
+ghost use Rattle.sw_verify.specs.Setup.{kept};
+ghost use Rattle.sw_base.specs.declared.error.ScpiError.TheVariants.{DataCorruptOrStale, OutOfMemory};
+ghost use Rattle.sw_lex.specs.declared.command.GroupQuery.TheVariants.{Condition};
+ghost use Rattle.sw_core.specs.Action.{query_text, layer_text, group_action, condition_text, program_text};
+ghost use Rattle.sw_core.specs.Action.{programmed_text, readings_of_scan};
+ghost use Rattle.sw_core.specs.declared.ask.SessionAsk.{SessionAsk};
 ghost use Rattle.sw_core.specs.declared.ask.SessionAnswer.TheVariants.{Refused};
-ghost use Rattle.sw_core.specs.Step.{StepText, StepReadings};
+ghost use Rattle.sw_core.specs.Step.{StepAction, StepText, StepSurety, StepReadings};
 
 use crate::answer_text::AnswerText;
 use crate::ask::SessionAnswer;
 use crate::readings_text::ReadingsText;
+use crate::registers::condition_told;
 use crate::state::Core;
 use crate::text::{answered, identity, source_word, version};
 use std::alloc::Global;
 use sw_base::{LayerName, ScpiError, Sequence, StatusGroup};
 use sw_card::{Meter, Relay};
 use sw_channel::print_positions;
-use sw_lex::{GroupQuery, LayerQuery, PlainQuery, headers_text};
+use sw_code::{Code, print_listing};
+use sw_lex::{GroupQuery, LayerQuery, PlainQuery, block_of, headers_text};
 
 impl<R: Relay, M: Meter> Core<R, M> {
     /// Answers a query; `available` says whether its message has answered before, so that a message is available.
@@ -34,13 +41,15 @@ impl<R: Relay, M: Meter> Core<R, M> {
             PlainQuery::SelfTest => self.number(0),
             PlainQuery::InitiateContinuous => self.number(0),
             PlainQuery::CloseState => self.close_state(alloc),
-            PlainQuery::Settling => answered(AnswerText::seconds(self.settings.settle_us())),
+            PlainQuery::Settling => answered(AnswerText::seconds(self.settings.scan.settle_us())),
             PlainQuery::Scan => self.scan_query(alloc),
-            PlainQuery::ScanMeter => self.number(u64::from(self.settings.meter())),
+            PlainQuery::ScanMeter => self.number(u64::from(self.settings.scan.meter())),
+            PlainQuery::Program => self.program_query(alloc),
+            PlainQuery::Programmed => self.programmed_query(),
             PlainQuery::ErrorCount => self.number(self.status.count() as u64),
             PlainQuery::Headers => answered(AnswerText::fixed(headers_text())),
             PlainQuery::Version => answered(version()),
-            PlainQuery::Points => self.number(u64::from(self.settings.points())),
+            PlainQuery::Points => self.number(u64::from(self.settings.scan.points())),
             PlainQuery::ActualPoints => self.number(self.cage.readings().len() as u64),
             PlainQuery::Bound => self.number(self.settings.bound()),
             PlainQuery::ScanCheck => self.check_scan(alloc),
@@ -50,10 +59,10 @@ impl<R: Relay, M: Meter> Core<R, M> {
     /// Answers a query of a layer.
     #[inline(always)]
     pub(crate) fn tell_layer(&self, query: LayerQuery, layer: LayerName) -> SessionAnswer
-        ensures { StepText self.now (layer_text query (layer_of self.now.settings layer)) self.now.status Bool.false
-            result self.now }
+        ensures { StepText self.now (layer_text query (layer_of self.now.settings.scan layer)) self.now.status
+            Bool.false result self.now }
     {
-        let layer = self.settings.layer(layer);
+        let layer = self.settings.scan.layer(layer);
         match query {
             LayerQuery::Count => self.number(u64::from(layer.count)),
             LayerQuery::Source => answered(source_word(layer.source)),
@@ -62,20 +71,41 @@ impl<R: Relay, M: Meter> Core<R, M> {
         }
     }
 
-    /// Answers a query of a status group.
+    /// Answers a query of a status group. The condition of QUEStionable alone asks the cards.
     #[inline(always)]
     pub(crate) fn tell_group(&self, query: GroupQuery, group: StatusGroup) -> SessionAnswer
-        ensures { StepText self.now (group_text query (registers_of self.now.status group)) self.now.status Bool.false
-            result self.now }
+        ensures { (ask : SessionAsk) → StepAction (group_action query group) self.now ask Bool.false result None
+            self.now }
     {
-        let group = self.status.group(group);
+        let registers = self.status.group(group);
         let bits = match query {
-            GroupQuery::Condition => group.condition(),
-            GroupQuery::Enable => group.enable(),
-            GroupQuery::PositiveTransition => group.ptr(),
-            GroupQuery::NegativeTransition => group.ntr(),
+            GroupQuery::Condition => return self.condition(group),
+            GroupQuery::Enable => registers.enable(),
+            GroupQuery::PositiveTransition => registers.ptr(),
+            GroupQuery::NegativeTransition => registers.ntr(),
         };
         self.number(u64::from(bits))
+    }
+
+    /// The condition of a status group.
+    #[inline(always)]
+    fn condition(&self, group: StatusGroup) -> SessionAnswer
+        ensures { (ask : SessionAsk) → StepAction (group_action Condition group) self.now ask Bool.false result None
+            self.now }
+    {
+        match group {
+            StatusGroup::Operation => self.number(u64::from(self.status.group(group).condition())),
+            StatusGroup::Questionable => self.questionable(),
+        }
+    }
+
+    /// The condition of QUEStionable, with bit 9 too while a card is unsure of its relays.
+    #[inline(never)]
+    fn questionable(&self) -> SessionAnswer
+        ensures { StepSurety self.now (condition_text self.now) Bool.false result self.now }
+    {
+        let bits = self.status.group(StatusGroup::Questionable).condition();
+        answered(AnswerText::number(u64::from(condition_told(bits, &self.cage))))
     }
 
     /// A number as an answer.
@@ -89,16 +119,43 @@ impl<R: Relay, M: Meter> Core<R, M> {
     /// The channels of the scan.
     #[inline(never)]
     fn scan_query(&self, alloc: Global) -> SessionAnswer
-        ensures { StepText self.now (printed_positions self.now.settings.list) self.now.status Bool.false result
+        ensures { StepText self.now (printed_positions self.now.settings.scan.list) self.now.status Bool.false result
             self.now }
     {
-        match print_positions(alloc, self.settings.list()) {
+        match print_positions(alloc, self.settings.scan.list()) {
             Ok(text) => answered(AnswerText::bytes(Sequence::new(text))),
             Err(error) => SessionAnswer::Refused(error),
         }
     }
 
-    /// The readings of the scan with this number, where it made so many, and no scan began since.
+    /// Whether INITiate runs a program.
+    fn programmed_query(&self) -> SessionAnswer
+        ensures { StepText self.now (programmed_text self.now.settings.program) self.now.status Bool.false result
+            self.now }
+    {
+        if self.settings.is_programmed() {
+            self.number(1)
+        } else {
+            self.number(0)
+        }
+    }
+
+    /// The program as a listing in a block; an empty one for none.
+    #[inline(never)]
+    fn program_query(&self, alloc: Global) -> SessionAnswer
+        ensures { StepText self.now (program_text (kept self.now.settings.program)) self.now.status Bool.false result
+            self.now }
+    {
+        let Some(program) = self.settings.program.kept() else {
+            return answered(AnswerText::fixed(b"#10"));
+        };
+        match listed(alloc, program.code()) {
+            Ok(text) => answered(AnswerText::bytes(text)),
+            Err(error) => SessionAnswer::Refused(error),
+        }
+    }
+
+    /// The readings of the scan with this number, where it made exactly this count of them and no scan began since.
     #[inline(never)]
     pub(crate) fn scan_readings(&self, alloc: Global, number: u64, count: u64) -> SessionAnswer
         ensures { StepReadings (readings_of_scan number count self.now) self.now Bool.false result self.now }
@@ -110,7 +167,8 @@ impl<R: Relay, M: Meter> Core<R, M> {
         }
     }
 
-    /// The readings of the last scan, copied: their text is made where nobody waits for the mainframe.
+    /// The readings of the last scan, copied: their text is made outside the mainframe, so that no other session waits
+    /// for it.
     #[inline(never)]
     pub(crate) fn fetch(&self, alloc: Global) -> SessionAnswer
         ensures { StepReadings self.now.cage.readings self.now Bool.false result self.now }
@@ -126,9 +184,18 @@ impl<R: Relay, M: Meter> Core<R, M> {
     }
 }
 
-/// What is answered where there are no readings to tell.
+/// The answer where there are no readings.
 fn stale() -> SessionAnswer
     ensures { result ≡ Refused DataCorruptOrStale }
 {
     SessionAnswer::Refused(ScpiError::DataCorruptOrStale)
+}
+
+/// A code as a listing in a block.
+fn listed(alloc: Global, code: &Code) -> Result<Sequence<u8>, ScpiError>
+    ensures text { IfOk result (λ text. text ≡ block_of (listing_of code.now)) }
+    ensures memory { IfErr result (λ e. e ≡ OutOfMemory) }
+{
+    let text = print_listing(alloc, code)?;
+    Ok(block_of(alloc, &text)?)
 }

@@ -1,4 +1,4 @@
-//! Readings that are printed where their text is wanted.
+//! Readings that are printed only where a reader wants their text.
 
 ghost use Rattle.std.specs.Prelude.{◌≡◌, ◌++◌, IfOk, OnOk, map};
 ghost use Rattle.std.specs.List.{join_with_byte};
@@ -15,7 +15,8 @@ const LEAST_VOLTS: usize = 11;
 /// How many an overload has.
 const OVERLOAD: usize = 7;
 
-/// A copy of readings, whose text is made where nobody waits for the mainframe. Contracts see the readings.
+/// A copy of readings. Their text is made outside the mainframe, so that no other session waits for it. Contracts see
+/// the readings.
 #[derive(Debug, Drop)]
 pub struct ReadingsText {
     alloc: Global,
@@ -62,7 +63,7 @@ impl ReadingsText {
     }
 }
 
-/// The readings, joined by commas, in a text that has so much room at first.
+/// The readings, joined by commas, in a text with this much room at first.
 #[tactic(auto, using(crate::proofs::RowsLemmas::reading_some))]
 fn all_readings(
     alloc: Global,

@@ -3,9 +3,10 @@
 ghost use Rattle.std.specs.Prelude.{◌≡◌, [], Bool, decimal, if◌then◌else◌};
 ghost use Rattle.sw_status.specs.Registers.{event_taken};
 ghost use Rattle.sw_status.specs.StatusModel.{popped, cleared, preset, registers_of, with_group};
+ghost use Rattle.sw_cage.specs.Cards.{all_sure};
 ghost use Rattle.sw_core.specs.Action.{with_bits, read_text, without_read};
 ghost use Rattle.sw_core.specs.Answers.{oldest_entry, all_entries};
-ghost use Rattle.sw_core.specs.Registers.{card_fault_reported, card_fault_cleared};
+ghost use Rattle.sw_core.specs.Registers.{card_fault_reported, card_fault_cleared, condition_told};
 ghost use Rattle.sw_core.specs.Step.{StepText, StepDone};
 
 use crate::answer_text::AnswerText;
@@ -14,28 +15,29 @@ use crate::state::Core;
 use crate::text::{all_entries, answered};
 use std::alloc::Global;
 use sw_base::{ScpiError, StatusGroup};
+use sw_cage::Cage;
 use sw_card::{Meter, Relay};
 use sw_lex::{StatusRead, StatusSetting};
 use sw_status::Status;
 
-/// The condition bit of a card's failure (own).
-const CARD_FAILED: u16 = 1 << 9;
+/// The condition bit of a card that failed, or that is unsure of its relays (own).
+const CARD_FAULT: u16 = 1 << 9;
 
-/// Tells QUEStionable that a card failed.
+/// Sets the condition of QUEStionable: it reports that a card failed.
 pub fn report_card_fault(status: &mut Status)
     ensures { status.new ≡ card_fault_reported status.old }
 {
-    status.set_condition(StatusGroup::Questionable, CARD_FAILED);
+    status.set_condition(StatusGroup::Questionable, CARD_FAULT);
 }
 
-/// Tells QUEStionable that no failure stands any more.
+/// Clears the condition of QUEStionable: it reports no failure any more.
 pub fn clear_card_fault(status: &mut Status)
     ensures { status.new ≡ card_fault_cleared status.old }
 {
     status.set_condition(StatusGroup::Questionable, 0);
 }
 
-/// Tells QUEStionable whether a card failed.
+/// Sets QUEStionable by whether a card failed.
 pub fn set_card_fault(status: &mut Status, failed: bool)
     ensures { status.new ≡ (if failed then card_fault_reported status.old else card_fault_cleared status.old) }
 {
@@ -46,8 +48,20 @@ pub fn set_card_fault(status: &mut Status, failed: bool)
     }
 }
 
+/// The condition that QUEStionable's query answers, where these bits are its register: with bit 9 too while a card of
+/// the cage is unsure of its relays.
+pub(crate) fn condition_told<R: Relay, M: Meter>(bits: u16, cage: &Cage<R, M>) -> u16
+    ensures { result ≡ condition_told bits (all_sure R.sure cage.now.cards) }
+{
+    if cage.is_sure() {
+        bits
+    } else {
+        bits | CARD_FAULT
+    }
+}
+
 impl<R: Relay, M: Meter> Core<R, M> {
-    /// Tells what a query takes out of the status, and takes it out.
+    /// Answers what a query reads out of the status, and takes that out.
     #[inline(always)]
     pub(crate) fn read_out(&mut self, alloc: Global, read: StatusRead) -> SessionAnswer
         ensures { StepText self.old (read_text read self.old.status) (without_read read self.old.status) Bool.false

@@ -21,7 +21,7 @@ use sw_trigger::Settings;
 use sw_verify::{Layout, Refusal, first_blocked};
 
 impl<R: Relay, M: Meter> Core<R, M> {
-    /// Tells why INITiate would be refused now, or what its scan awaits and reads.
+    /// Answers why the mainframe would refuse INITiate now, or what its scan awaits and reads.
     #[inline(never)]
     pub(crate) fn check_scan(&self, alloc: Global) -> SessionAnswer
         ensures { StepText self.now (scan_check_text self.now) self.now.status Bool.false result self.now }
@@ -33,14 +33,17 @@ impl<R: Relay, M: Meter> Core<R, M> {
     }
 
     /// The text of that. It looks at each position that the scan uses and at each closed channel twice at most, and at
-    /// the closed channels once more for each channel of the position that is refused.
+    /// the closed channels once more for each channel of the refused position.
     fn scan_check(&self, alloc: Global) -> Result<Sequence<u8>, ScpiError>
         ensures { IfOk result (λ text. text ≡ scan_check_text self.now) }
     {
         if self.cage.is_running() {
             return quoted(alloc, b"a scan runs", &[]);
         }
-        let slot = self.settings.meter();
+        if self.settings.is_programmed() {
+            return quoted(alloc, b"a program is on", &[]);
+        }
+        let slot = self.settings.scan.meter();
         if self.cage.has_out(slot) {
             let words = format!(in alloc; "the meter of slot {slot} is out")?;
             return quoted(alloc, words.as_bytes(), &[]);
@@ -50,7 +53,7 @@ impl<R: Relay, M: Meter> Core<R, M> {
         }
         let layout = self.cage.layout(alloc)?;
         let closed = self.cage.closed_chans(alloc)?;
-        ready_text(alloc, &self.settings, &layout, closed)
+        ready_text(alloc, &self.settings.scan, &layout, closed)
     }
 }
 
@@ -62,11 +65,7 @@ fn ready_text(
     layout: &Layout,
     closed: Vec<Chan>,
 ) -> Result<Sequence<u8>, ScpiError>
-    ensures { IfOk result (λ text. text ≡ ready_text (record {
-      settings = settings.now;
-      layout = layout.now;
-      closed = closed.items;
-    })) }
+    ensures { IfOk result (λ text. text ≡ ready_text settings.now layout.now closed.items) }
 {
     if settings.list().is_empty() {
         return refused_text(alloc, Refusal::EmptyList, "nothing is listed (ROUTe:SCAN)");
@@ -87,7 +86,7 @@ fn ready_text(
     counted_text(alloc, settings)
 }
 
-/// What is told of the readings of settings, where nothing else refuses them.
+/// The text on the count of readings of settings, where nothing else refuses them.
 fn counted_text(alloc: Global, settings: &Settings) -> Result<Sequence<u8>, ScpiError>
     ensures { IfOk result (λ text. text ≡ counted_text settings.now) }
 {

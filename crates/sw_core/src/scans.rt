@@ -4,7 +4,7 @@ ghost use Rattle.std.specs.Prelude.{◌≡◌, Bool, IfOk, IfSome, IfNone, None,
 ghost use Rattle.sw_core.specs.Registers.{card_fault_reported};
 ghost use Rattle.sw_cage.specs.Change.{any_failed};
 ghost use Rattle.sw_cage.specs.TakenSeen.{taken_seen, tells_fault};
-ghost use Rattle.sw_verify.specs.Check.{IsReady};
+ghost use Rattle.sw_verify.specs.Ready.{IsReady};
 ghost use Rattle.sw_core.specs.Event.{concluded};
 ghost use Rattle.sw_core.specs.Seen.{work_seen, answer_seen, failed_in, AskElapsed, AskFinished, HandsBack};
 ghost use Rattle.sw_core.specs.Seen.{IsOwnAccount};
@@ -28,7 +28,7 @@ use sw_card::{Meter, Relay};
 use sw_status::Status;
 use sw_verify::{BoxedSnapshot, Plan, Snapshot};
 
-/// The work that a scan awaits once it has come to this.
+/// The work that a scan awaits after this outcome.
 #[inline(always)]
 fn work_of<M: Meter>(told: Taken<M>) -> Option<Work<M>>
     ensures { work_seen result ≡ work_of (taken_seen told) }
@@ -40,7 +40,7 @@ fn work_of<M: Meter>(told: Taken<M>) -> Option<Work<M>>
     }
 }
 
-/// What a session is answered by what the cage told; what no scan takes is refused by this error.
+/// The answer to a session by the cage's outcome; this error refuses what no scan takes.
 #[inline(always)]
 fn session_told<M: Meter>(told: &Taken<M>, error: ScpiError) -> SessionAnswer
     ensures { result ≡ session_told error (taken_seen told.now) }
@@ -52,7 +52,7 @@ fn session_told<M: Meter>(told: &Taken<M>, error: ScpiError) -> SessionAnswer
     }
 }
 
-/// What is answered to no session by what the cage told.
+/// The answer to no session by the cage's outcome.
 fn outside_told<R: Relay, M: Meter>(told: Taken<M>) -> Answer<R, M>
     ensures { answer_seen result ≡ outside_told (taken_seen told) }
 {
@@ -63,7 +63,7 @@ fn outside_told<R: Relay, M: Meter>(told: Taken<M>) -> Answer<R, M>
     }
 }
 
-/// What a session is answered when its scan has begun.
+/// The answer to a session after its scan has begun.
 fn started_answer<M: Meter>(told: &Taken<M>) -> SessionAnswer
     ensures { result ≡ started_answer (taken_seen told.now) }
 {
@@ -84,7 +84,7 @@ fn tells_fault<M: Meter>(told: &Taken<M>) -> bool
     }
 }
 
-/// Tells QUEStionable where a card failed on the way.
+/// Sets QUEStionable where a card failed on the way.
 #[inline(always)]
 fn report_fault<M: Meter>(status: &mut Status, told: &Taken<M>)
     ensures { status.new ≡ (if tells_fault (taken_seen told.now) then card_fault_reported status.old
@@ -109,8 +109,8 @@ impl<R: Relay, M: Meter> Core<R, M> {
         told
     }
 
-    /// Offers a session's happening to the scan; where it isn't taken it is refused by this error. What the session is
-    /// answered is left in `answer`, and what the scan awaits now in `work`.
+    /// Offers a session's happening to the scan; where no scan takes it, this error refuses it. It leaves the answer to
+    /// the session in `answer`, and what the scan awaits now in `work`.
     #[inline(never)]
     pub(crate) fn trigger(
         &mut self,
@@ -145,7 +145,7 @@ impl<R: Relay, M: Meter> Core<R, M> {
         self.trigger(Happening::Signal(layer), error, answer, work);
     }
 
-    /// Offers a happening that is no session's to the scan.
+    /// Offers a happening of no session to the scan.
     #[inline(never)]
     pub(crate) fn outside(&mut self, happening: Happening) -> Answer<R, M>
         ensures { StepOutside self.old happening (any_failed self.old.cage.cards self.new.cage.cards)
@@ -175,8 +175,8 @@ impl<R: Relay, M: Meter> Core<R, M> {
         }
     }
 
-    /// Takes a meter back: one event, as `finish` does it. What the scan awaits now is left in `work`; a meter that is
-    /// not out here is let go.
+    /// Takes a meter back: one event, as `finish` does it. It leaves what the scan awaits now in `work`, and drops a
+    /// meter that is not out here.
     #[inline(always)]
     #[tactic(auto, using(crate::proofs::BroughtLemmas::returned_back))]
     pub fn come_back(&mut self, done: Finished<M>, work: &mut Option<Work<M>>)
@@ -192,7 +192,7 @@ impl<R: Relay, M: Meter> Core<R, M> {
         }
     }
 
-    /// Tells the scan that a pause is over: one event, as `apply` does it. What the scan awaits now is left in `work`.
+    /// Ends a pause: one event, as `apply` does it. It leaves what the scan awaits now in `work`.
     #[inline(always)]
     #[tactic(auto, using(crate::proofs::BroughtLemmas::elapsed_worn))]
     pub fn elapse(&mut self, ticket: Ticket, work: &mut Option<Work<M>>)
@@ -206,7 +206,7 @@ impl<R: Relay, M: Meter> Core<R, M> {
         self.conclude(told, work);
     }
 
-    /// Ends an event that is no session's by what the cage told, and leaves what the scan awaits now in `work`.
+    /// Ends an event of no session by the cage's outcome, and leaves what the scan awaits now in `work`.
     #[inline(always)]
     #[tactic(auto, using(crate::proofs::BroughtLemmas::concluded_fault, crate::proofs::BroughtLemmas::concluded_else, crate::proofs::BroughtLemmas::told_brings))]
     fn conclude(&mut self, said: Taken<M>, work: &mut Option<Work<M>>)
@@ -262,7 +262,8 @@ impl<R: Relay, M: Meter> Core<R, M> {
         BoxedSnapshot::new(alloc, snapshot)
     }
 
-    /// Begins the scan of a plan, where what it was made of is so now. What it awaits now is left in `work`.
+    /// Begins the scan of a plan, where the plan was made of the state as it is now. It leaves what the scan awaits now
+    /// in `work`.
     #[inline(never)]
     #[tactic(auto, using(crate::proofs::HappenedLemmas::refused_start))]
     pub(crate) fn start(
@@ -284,7 +285,7 @@ impl<R: Relay, M: Meter> Core<R, M> {
         self.begin(alloc, plan, work)
     }
 
-    /// Whether the snapshot tells what is so now. It takes no memory.
+    /// Whether the snapshot is of the state as it is now. It takes no memory.
     fn is_now(&self, snapshot: &Snapshot) -> bool
         ensures { IsTrue result ↔ (snapshot.now ≡ snapshot_of self.now) }
     {

@@ -21,16 +21,16 @@ use sw_hislip::{LONGEST_PAYLOAD, LockReply, Locks, Released};
 /// A seat for each session.
 const SEATS: usize = SESSIONS as usize;
 
-/// What is known of a session.
+/// The seat of a session.
 #[derive(Clone, Copy, Debug, PartialEq, Eq)]
 pub struct Seat {
     /// The number of events after its Join.
     pub joined: u64,
-    /// Whether its second channel stands.
+    /// Whether it has its second channel.
     pub attached: bool,
     /// The size of a message that it takes, in bytes.
     pub size: u64,
-    /// Whether it is being cleared: what it asks is dropped.
+    /// Whether it is being cleared: the mainframe drops those of its asks that `is_dropped` names.
     pub clearing: bool,
 }
 
@@ -55,7 +55,7 @@ impl Model for Sessions {
 }
 
 impl Sessions {
-    /// Nobody, and no lock.
+    /// No session, and no lock.
     pub fn new() -> Self
         ensures { result ≡ nobody }
     {
@@ -75,7 +75,7 @@ impl Sessions {
             && joined_in(seats[sid.number as usize - 1]) == Some(sid.joined)
     }
 
-    /// Gives the least free number to a session that joins after so many events.
+    /// Gives the least free number to a session that joins after this number of events.
     pub fn join(&mut self, events: u64) -> Option<Sid>
         ensures free { IfSome result (λ sid. IsLeastFree self.old sid.number × (sid.joined ≡ events)) }
         ensures joined { IfSome result (λ sid. self.new ≡ with_seat self.old sid.number (Some (fresh_seat events))) }
@@ -136,7 +136,7 @@ impl Sessions {
         self.locks.admits(sid.number)
     }
 
-    /// Whether what the session asks is dropped now.
+    /// Whether the mainframe drops the session's ask now.
     pub fn drops(&self, sid: Sid, ask: &SessionAsk) -> bool
         requires { IsJoined self.now sid }
         ensures { result ≡ is_clearing self.now sid.number && is_dropped ask.now }
@@ -144,7 +144,7 @@ impl Sessions {
         self.is_clearing(sid) && is_dropped(ask)
     }
 
-    /// Whether what the session asks waits for the locks of others now.
+    /// Whether the session's ask waits for the locks of others now.
     pub fn shuts_out(&self, sid: Sid, ask: &SessionAsk) -> bool
         requires { IsJoined self.now sid }
         ensures { result ≡ not (admits self.now.locks sid.number) && is_shut_out ask.now }
@@ -152,7 +152,7 @@ impl Sessions {
         !self.admits(sid) && is_shut_out(ask)
     }
 
-    /// Does what a session asks of its seat or of the locks.
+    /// Does a session's ask of its seat or of the locks.
     #[inline(never)]
     pub fn serve(&mut self, alloc: Global, sid: Sid, ask: SessionAsk) -> SessionAnswer
         requires asker { asker_of ask ≡ Some sid }
@@ -205,12 +205,12 @@ impl Sessions {
             Ok(LockReply::Granted) => SessionAnswer::Lock(1),
             Ok(LockReply::NotNow) => SessionAnswer::Hold(SessionAsk::Lock(sid, key)),
             Ok(LockReply::Wrong) => SessionAnswer::Lock(3),
-            // A key that finds no memory is answered as an error.
+            // For a key that finds no memory the answer is an error.
             Err(_) => SessionAnswer::Lock(3),
         }
     }
 
-    /// Notes what is known of the session, or that it has left.
+    /// Sets the seat of the session, or that it has left.
     fn change(&mut self, sid: Sid, seat: Option<Seat>) -> SessionAnswer
         requires { IsJoined self.old sid }
         ensures done { result ≡ Done None }
@@ -220,7 +220,7 @@ impl Sessions {
         SessionAnswer::Done(None)
     }
 
-    /// What is known of the session.
+    /// The session's seat.
     fn seat(&self, sid: Sid) -> Seat
         requires { IsJoined self.now sid }
         ensures { result ≡ seat_of self.now sid.number }

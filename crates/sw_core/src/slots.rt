@@ -1,6 +1,6 @@
 //! Queries of a slot: which card it has, its channels' groups, and whether the card is sure of its relays.
 
-ghost use Rattle.std.specs.Prelude.{◌≡◌, ◌++◌, Bool, true, false, IfOk, OnOk, OnErr, None, Some, codes, decimal, map};
+ghost use Rattle.std.specs.Prelude.{◌≡◌, ◌++◌, ◌||◌, Bool, true, IfOk, OnOk, OnErr, None, Some, codes, decimal, map};
 ghost use Rattle.std.specs.List.{join_with_byte};
 ghost use Rattle.sw_base.specs.declared.error.ScpiError.TheVariants.{OutOfMemory};
 ghost use Rattle.sw_card.specs.Account.{is_meter};
@@ -9,7 +9,7 @@ ghost use Rattle.sw_core.specs.declared.ask.SessionAsk.{SessionAsk};
 ghost use Rattle.sw_core.specs.declared.ask.SessionAnswer.TheVariants.{Done, Refused};
 ghost use Rattle.sw_core.specs.Action.{slot_action};
 ghost use Rattle.sw_core.specs.Answers.{four_fields, revision};
-ghost use Rattle.sw_core.specs.SlotTexts.{kind_text, has_relays, groups_text, known_state, surety_word};
+ghost use Rattle.sw_core.specs.SlotTexts.{kind_text, has_relays, groups_text, state_text, surety_word};
 ghost use Rattle.sw_core.specs.SlotTexts.{kind_word};
 ghost use Rattle.sw_core.specs.Step.{StepAction, StepText, StepHardware, StepSurety};
 
@@ -59,7 +59,7 @@ impl<R: Relay, M: Meter> Core<R, M> {
 
     /// Whether the slot's card is sure of its relays.
     fn card_state(&self, slot: u8) -> SessionAnswer
-        ensures { StepSurety self.now (known_state slot self.now) Bool.false result self.now }
+        ensures { StepSurety self.now (state_text slot self.now) Bool.false result self.now }
     {
         match self.cage.card(slot) {
             Some(card) => answered(word_of(card)),
@@ -69,7 +69,7 @@ impl<R: Relay, M: Meter> Core<R, M> {
     }
 }
 
-/// A text that was made, or want of memory.
+/// The answer with a text, or the refusal for a lack of memory.
 fn told(text: Result<Sequence<u8>, AllocError>) -> SessionAnswer
     ensures ok { IfOk text (λ text. result ≡ Done (Some text)) }
     ensures err { OnErr text (result ≡ Refused OutOfMemory) }
@@ -80,14 +80,14 @@ fn told(text: Result<Sequence<u8>, AllocError>) -> SessionAnswer
     }
 }
 
-/// What is told of an empty slot.
+/// The answer for an empty slot.
 fn empty() -> AnswerText
     ensures { result ≡ four_fields (codes "0") (codes "0") (codes "0") }
 {
     AnswerText::fixed(b"OPENBENCH,0,0,0")
 }
 
-/// What is told of a meter that is out to measure: its serial number is not available.
+/// The answer for a meter that is out to measure: its serial number is not available.
 fn meter_out() -> AnswerText
     ensures { result ≡ four_fields (codes "METER") (codes "0") revision }
 {
@@ -146,8 +146,7 @@ fn groups_of<R: Relay, M: Meter>(
 
 /// What a card says of its relays; a meter has none.
 fn word_of<R: Relay, M: Meter>(card: &Card<R, M>) -> AnswerText
-    ensures meter { is_meter card.now.1 ≡ true → result ≡ surety_word true }
-    ensures relays { is_meter card.now.1 ≡ false → result ≡ surety_word (surety R.sure card.now.0) }
+    ensures { result ≡ surety_word (is_meter card.now.1 || surety R.sure card.now.0) }
 {
     surety_word(card.is_meter() || card.is_sure())
 }

@@ -32,7 +32,7 @@ use sw_cage::{Cage, Finished, Happening};
 use sw_card::{Card, Meter, Relay};
 use sw_lex::{Command, Plain};
 use sw_status::Status;
-use sw_trigger::Settings;
+use sw_verify::Setup;
 
 /// The mainframe: its cage of cards and its scan, its sessions, its status and the settings of its scans. Contracts see
 /// its panel.
@@ -41,7 +41,7 @@ pub struct Core<R: Relay, M: Meter> {
     pub(crate) cage: Cage<R, M>,
     pub(crate) sessions: Sessions,
     pub(crate) status: Status,
-    pub(crate) settings: Settings,
+    pub(crate) settings: Setup,
     /// Whether `*OPC` waits for the end of the scan.
     pub(crate) opc_waits: bool,
     /// How many events there were.
@@ -62,7 +62,7 @@ impl<R: Relay, M: Meter> Model for Core<R, M> {
 }
 
 impl<R: Relay, M: Meter> Core<R, M> {
-    /// A mainframe with an empty cage, and nobody joined.
+    /// A mainframe with an empty cage, and no session joined.
     pub fn new(alloc: Global) -> Result<Self, AllocError>
         ensures { IfOk result (λ core. core ≡ opening) }
     {
@@ -77,7 +77,7 @@ impl<R: Relay, M: Meter> Core<R, M> {
             cage: Cage::with_number(alloc, scans)?,
             sessions: Sessions::new(),
             status: Status::new(alloc)?,
-            settings: Settings::new(alloc),
+            settings: Setup::new(alloc),
             opc_waits: false,
             events,
         })
@@ -97,8 +97,7 @@ impl<R: Relay, M: Meter> Core<R, M> {
         self.cage.is_running()
     }
 
-    /// The status byte without bits 4 and 6, and the number of service requests so far: what is published of the
-    /// status.
+    /// The status byte without bits 4 and 6, and the number of service requests so far: the published status.
     pub fn pair(&self) -> (u8, u64)
         ensures byte { result.0 ≡ summary_of self.now.status }
         ensures requests { result.1 ≡ self.now.status.requests }
@@ -106,12 +105,12 @@ impl<R: Relay, M: Meter> Core<R, M> {
         (self.status.summary(), self.status.requests())
     }
 
-    /// Does what is asked: one event.
+    /// Does an ask: one event.
     ///
     /// A refusal queues its error. Only queries, snapshots and the start of a scan take memory; where there is none,
-    /// they are refused by -225 and change nothing. When 2^64 - 1 events were numbered, an ask is handed back, but for
-    /// an abort, an eject and the return of a meter, which still act. A meter that returns tells what its own account
-    /// does.
+    /// -225 refuses them and they change nothing. After 2^64 - 1 events the answer gives the ask back, but for an
+    /// abort, an eject and the return of a meter, which still act. A meter that returns reports what its own account
+    /// says.
     #[tactic(auto, using(crate::proofs::NumberedLemmas::worn_step, crate::proofs::NumberedLemmas::numbered_step, crate::proofs::NumberedLemmas::own_worn))]
     pub fn apply(&mut self, alloc: Global, ask: Ask<R, M>) -> Answer<R, M>
         ensures step { Step self.old (ask_seen ask)
@@ -128,8 +127,8 @@ impl<R: Relay, M: Meter> Core<R, M> {
         answer
     }
 
-    /// Does what a session asks: one event, as `apply` does it, where it can be numbered. What it is answered is left in
-    /// `answer`, and what its scan awaits now in `work`.
+    /// Does a session's ask: one event, as `apply` does it, where it can number that. It leaves the answer in `answer`,
+    /// and what the scan awaits now in `work`.
     #[tactic(auto, using(crate::proofs::NumberedLemmas::worn_step, crate::proofs::NumberedLemmas::numbered_step))]
     pub fn ask(
         &mut self,
@@ -150,8 +149,7 @@ impl<R: Relay, M: Meter> Core<R, M> {
         self.end_session_event(answer);
     }
 
-    /// Does what a session asks by the command of a unit, as `ask` does it: so the ask is made only where it is handed
-    /// back.
+    /// Does a session's unit, as `ask` does it. It makes the ask only where it gives it back.
     #[tactic(auto, using(crate::proofs::NumberedLemmas::worn_step, crate::proofs::NumberedLemmas::numbered_step))]
     #[inline(always)]
     pub fn ask_unit(
@@ -175,7 +173,7 @@ impl<R: Relay, M: Meter> Core<R, M> {
         self.end_session_event(answer);
     }
 
-    /// Whether what a session asks would be held now, with nothing changed. An ask for a lock is answered no.
+    /// Whether the mainframe would hold a session's ask now; nothing changes. For a lock's ask the answer is no.
     pub fn holds(&self, ask: &SessionAsk) -> bool
         ensures held { result ≡ true → Step self.now (AskSession ask.now) Bool.false
             (SaysSession (Hold ask.now) None) self.now }
@@ -198,7 +196,7 @@ impl<R: Relay, M: Meter> Core<R, M> {
         self.sessions.shuts_out(sid, ask) || (is_held(ask) && self.cage.is_running())
     }
 
-    /// Does what is asked, and leaves the end of the event to the caller.
+    /// Does an ask, and leaves the end of the event to the caller.
     fn act(&mut self, alloc: Global, ask: Ask<R, M>) -> Answer<R, M>
         ensures acts { Acts self.old (ask_seen ask)
             (failed_in (ask_seen ask) (answer_seen result) self.old.cage.cards self.new.cage.cards)
@@ -249,7 +247,7 @@ impl<R: Relay, M: Meter> Core<R, M> {
         }
     }
 
-    /// Does what a session asks, or drops it, holds it or refuses it as a stranger's.
+    /// Does an ask of a session or of none, or drops it, holds it or answers `Stranger`.
     fn session(
         &mut self,
         alloc: Global,
@@ -269,7 +267,7 @@ impl<R: Relay, M: Meter> Core<R, M> {
         }
     }
 
-    /// Does what a session asks by the command of a unit, or drops it, holds it or refuses it as a stranger's.
+    /// Does a session's unit, or drops it, holds it or answers `Stranger`.
     #[tactic(auto, using(crate::proofs::CallsLemmas::failed_same))]
     #[inline(always)]
     fn unit(
@@ -286,10 +284,12 @@ impl<R: Relay, M: Meter> Core<R, M> {
             (any_failed self.old.cage.cards self.new.cage.cards) answer.new (work_seen work.new) self.new }
     {
         if !self.sessions.has(sid) {
+            drop(command);
             turn_away(answer);
             return;
         }
         if self.sessions.is_clearing(sid) {
+            drop(command);
             break_off(answer);
             return;
         }
@@ -300,7 +300,7 @@ impl<R: Relay, M: Meter> Core<R, M> {
         self.carry_out(alloc, command, available, answer, work);
     }
 
-    /// Carries out the command of a session that is joined, which nothing holds.
+    /// Carries out a joined session's command, which nothing holds.
     #[tactic(auto, using(crate::proofs::CallsLemmas::failed_same))]
     #[inline(always)]
     fn carry_out(
@@ -325,7 +325,7 @@ impl<R: Relay, M: Meter> Core<R, M> {
         }
     }
 
-    /// Does what a session asks beside units, or drops it, holds it or refuses it as a stranger's.
+    /// Does an ask other than a unit, of a session or of none, or drops it, holds it or answers `Stranger`.
     #[tactic(auto, using(crate::proofs::CallsLemmas::failed_same))]
     #[inline(never)]
     fn beside_units(
@@ -345,10 +345,12 @@ impl<R: Relay, M: Meter> Core<R, M> {
             return;
         };
         if !self.sessions.has(sid) {
+            drop(ask);
             turn_away(answer);
             return;
         }
         if self.sessions.drops(sid, &ask) {
+            drop(ask);
             break_off(answer);
             return;
         }
@@ -359,7 +361,7 @@ impl<R: Relay, M: Meter> Core<R, M> {
         self.joined(alloc, sid, ask, answer, work);
     }
 
-    /// Does what none of the sessions asks.
+    /// Does an ask of no session.
     #[inline(never)]
     fn newcomer(&mut self, ask: SessionAsk, answer: &mut SessionAnswer)
         requires { asker_of ask ≡ None }
@@ -367,7 +369,10 @@ impl<R: Relay, M: Meter> Core<R, M> {
     {
         match ask {
             SessionAsk::Attach(number) => put(self.attach(number), answer),
-            _ => put(self.join(), answer),
+            ask => {
+                drop(ask);
+                put(self.join(), answer);
+            }
         }
     }
 
@@ -393,7 +398,7 @@ impl<R: Relay, M: Meter> Core<R, M> {
         }
     }
 
-    /// Does what a session that is joined asks beside units, where nothing holds it.
+    /// Does a joined session's ask other than a unit, where nothing holds it.
     #[tactic(auto, using(crate::proofs::CallsLemmas::failed_same))]
     fn joined(
         &mut self,

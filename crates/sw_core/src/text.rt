@@ -14,7 +14,7 @@ use sw_base::{Chan, NO_ERROR, ScpiError, Sequence, Source, print_signed};
 use sw_cage::Cage;
 use sw_card::{Meter, Relay};
 
-/// For how many bytes there is room in a text that grows.
+/// The bytes that a growing text has room for at first.
 pub const ROOM: usize = 64;
 
 /// The maker, the model, the serial number and the version (IEEE 488.2, 10.14).
@@ -71,7 +71,7 @@ pub fn flags<R: Relay, M: Meter>(
     Ok(Sequence::new(text))
 }
 
-/// The flag of a channel where the closed ones are asked for, or the open ones.
+/// The flag of a channel, by whether the query asks for the closed ones or the open ones.
 fn as_asked(asked: bool, closed: bool) -> bool
     ensures { result ≡ as_asked asked closed }
 {

@@ -10,7 +10,7 @@ use Rattle.sw_drivers.specs.Wires.{IsAll, grown, is_on}
 abbrev pub channel_on : Coils → (ℕ → ℕ → Bool) → ℕ → Bool
 channel_on coils on ch = nat_lt 0 ch && (nat_le ch coils.channels && on coils.unit (coils.first + ch - 1))
 
--- the board was asked for the states of its coils, and for nothing else, and has answered that they are these
+-- the driver asked the board for the states of its coils and for nothing else, and the board answered these
 pub record HasTold (before sent asked answered : Option (List ℕ)) (coils : Coils) (states : List ℕ) : Type 0 where
   pub number : ℕ
   pub alone : sent ≡ grown before (frame coils.wrapping number coils.unit (Read coils.first coils.channels))
@@ -18,7 +18,7 @@ pub record HasTold (before sent asked answered : Option (List ℕ)) (coils : Coi
   pub size : length states ≡ bytes_for coils.channels
   pub answer : IsAll answered (wrapped coils.wrapping number (coils.unit ∷ tells coils.channels states))
 
--- the board was asked for the states of its coils last, and has answered that they are these, by channel
+-- the driver last asked the board for the states of its coils, and the board answered these, by channel
 pub record HasShown (asked answered : Option (List ℕ)) (coils : Coils) (account : List Bool) : Type 0 where
   pub number : ℕ
   pub states : List ℕ

@@ -1,5 +1,5 @@
--- What is asked of a board of coils and what it answers (MODBUS Application Protocol V1.1b3: 6.1, 6.5, 6.11, 7), and
--- how that stands on the wire (MODBUS Messaging on TCP/IP, 3.1.3; MODBUS over Serial Line, 2.5.1).
+-- The requests to a board of coils and its responses (MODBUS Application Protocol V1.1b3: 6.1, 6.5, 6.11, 7), and their
+-- frames on the wire (MODBUS Messaging on TCP/IP, 3.1.3; MODBUS over Serial Line, 2.5.1).
 use Rattle.std.specs.Prelude.{◌<◌, ◌≤◌, ℕ, ◌+◌, ◌/◌, List, [], ◌∷◌, ◌++◌, length, replicate, if◌then◌else◌}
 use Rattle.std.specs.Int.{w16, to_be_bytes, to_le_bytes}
 use Rattle.sw_drivers.specs.declared.frame.Request.{Request as Asked}
@@ -8,7 +8,7 @@ use Rattle.sw_drivers.specs.declared.frame.Wrapping.{Wrapping as Wrapped}
 use Rattle.sw_drivers.specs.declared.frame.Wrapping.TheVariants.{Tcp, Rtu}
 use Rattle.sw_drivers.specs.Crc.{crc_of}
 
--- how many bytes the states of so many coils take
+-- the number of bytes for the states of this many coils
 abbrev pub bytes_for : ℕ → ℕ
 bytes_for count = (count + 7) / 8
 
@@ -43,13 +43,13 @@ wrapped Rtu number bytes = bytes ++ to_le_bytes w16 (crc_of bytes)
 abbrev pub frame : Wrapped → ℕ → ℕ → Asked → List ℕ
 frame wrapping number unit asked = wrapped wrapping number (body unit asked)
 
--- what a board answers that has done what it was asked to change
+-- the response of a board that has made the requested change
 abbrev pub confirms : Asked → List ℕ
 confirms (Read first count) = []
 confirms (Write coil on) = asks (Write coil on)
 confirms (Clear first count) = 15 ∷ (to_be_bytes w16 first ++ to_be_bytes w16 count)
 
--- what it answers that was asked for the states of so many coils: eight coils a byte, the first one lowest
+-- the response to a request for the states of this many coils: eight coils a byte, the first one lowest
 abbrev pub tells : ℕ → List ℕ → List ℕ
 tells count states = 1 ∷ bytes_for count ∷ states
 
@@ -58,11 +58,11 @@ function (Read first count) = 1
 function (Write coil on) = 5
 function (Clear first count) = 15
 
--- what it answers that refuses, by an exception's code
+-- the response that refuses, by an exception's code
 abbrev pub refuses : Asked → ℕ → List ℕ
 refuses asked code = (128 + function asked) ∷ code ∷ []
 
--- how many bytes the function and the data of an answer are that doesn't refuse
+-- the number of bytes of the function and the data in a response that doesn't refuse
 abbrev pub answer_size : Asked → ℕ
 answer_size (Read first count) = 2 + bytes_for count
 answer_size (Write coil on) = 5

@@ -1,4 +1,4 @@
--- Lines that are sent, and what is heard of them.
+-- The lines that a driver sends, and the bytes that it hears in answer.
 use Rattle.std.specs.Prelude.{◌≡◌, ℕ, List, ◌++◌, Option, Some, None}
 use Rattle.std.specs.List.{flat_map}
 use Rattle.std.specs.declared.vec.Vec.{Vec}
@@ -13,7 +13,7 @@ all_lines lines = flat_map (λ line. line.items) lines
 abbrev pub all_sent : List Command → List ℕ
 all_sent commands = flat_map (λ command. command.sent.items) commands
 
--- what is sent to a board that is reached: the lines that set it up, and what asks how each channel stands
+-- what the driver sends to a board that it reaches: the lines that set it up, and those that ask each channel's state
 abbrev pub reaching : Commands → List ℕ
 reaching commands = all_lines commands.setup.items ++ all_sent commands.is_on.items
 
@@ -21,11 +21,11 @@ reaching commands = all_lines commands.setup.items ++ all_sent commands.is_on.it
 abbrev pub EndsBy : List ℕ → List ℕ → Type 0
 EndsBy text end = (front : List ℕ) × (text ≡ front ++ end)
 
--- these bytes stand somewhere in the text
+-- the text has these bytes somewhere
 abbrev pub Holds : List ℕ → List ℕ → Type 0
 Holds text wanted = (front behind : List ℕ) × (text ≡ front ++ (wanted ++ behind))
 
--- all that was heard ends by these bytes and holds those, where it is known
+-- the bytes that the driver heard end by these and contain those, where they are known
 abbrev pub IsHeard : Option (List ℕ) → List ℕ → List ℕ → Type 0
 IsHeard None end wanted = Unit {0}
 IsHeard (Some answer) end wanted = EndsBy answer end × Holds answer wanted

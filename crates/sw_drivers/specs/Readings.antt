@@ -22,8 +22,8 @@ abbrev pub reading_at : Result ℤ ScpiError → Reading
 reading_at (Ok nanovolts) = Volts nanovolts
 reading_at (Err error) = Overload
 
--- The text begins with a number, and the reading is that many volts, to the nearest nanovolt, a half away from zero;
--- an overload where no `i64` has so many nanovolts.
+-- The text begins with a number, and the reading is that number of volts, to the nearest nanovolt, a half away from
+-- zero; an overload where the nanovolts exceed an `i64`.
 pub record IsReading (text : List ℕ) (reading : Reading) : Type 0 where
   pub number : Written
   pub rest : List ℕ

@@ -1,4 +1,4 @@
--- What stands at the other end of a wire, as far as it is known: the bytes of the exchange, and which coils are on.
+-- What contracts know of the other end of a wire: the bytes of the exchange, and which coils are on.
 use Rattle.std.specs.Prelude.{◌≡◌, ◌<◌, ◌≤◌, ◌⊎◌, ℕ, ◌+◌, ◌/◌, ◌%◌, ◌==◌, Bool, true, false, List, ◌∷◌, ◌++◌}
 use Rattle.std.specs.Prelude.{Option, Some, None, IsTrue}
 use Rattle.std.specs.Prelude.{get_or}
@@ -32,7 +32,7 @@ SwitchesOn (Read first count) coil = ⊥
 SwitchesOn (Write at on) coil = (on ≡ true) × (coil ≡ at)
 SwitchesOn (Clear first count) coil = ⊥
 
--- no coil has come on, unless this unit was asked to switch it on
+-- no coil has come on, unless the request asked this unit to switch it on
 abbrev pub Switched : ℕ → Asked → (ℕ → ℕ → Bool) → (ℕ → ℕ → Bool) → Type 0
 Switched asked request old new =
     (unit coil : ℕ) → IsTrue (new unit coil) → IsTrue (old unit coil) ⊎ ((unit ≡ asked) × SwitchesOn request coil)

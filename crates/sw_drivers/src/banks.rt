@@ -1,4 +1,4 @@
-//! Cards whose channels are in exclusion groups one by one.
+//! Cards that have an exclusion group for each channel.
 
 ghost use Rattle.std.specs.Prelude.{◌≡◌, ◌≤◌, length, replicate, false};
 ghost use Rattle.sw_base.specs.Limits.{most_channels};

@@ -25,20 +25,21 @@ pub trait Board: Drop {
     // Whether the channel's coil is on, as far as is known.
     ghost is_on: { Self → ℕ → Bool };
 
-    // The board's last answer has shown that its coils stand so, by channel, as far as it is asked.
+    // The board's last answer has shown these states of its coils, by channel, as far as the driver asks.
     ghost shows: { Self → List Bool → Type 0 };
 
-    // From the first state to the second the board was set up and asked how its coils stand, and was sent nothing else.
+    // From the first state to the second the driver set the board up, asked it for the states of its coils, and sent it
+    // nothing else.
     ghost looks: { Self → Self → Type 0 } = { λ _ _. ⊤ };
 
-    /// Opens the connection anew, sets the board up, and asks how its coils stand, where it tells that. Switches
-    /// nothing.
+    /// Opens the connection anew, sets the board up, and asks for the states of its coils, where the board answers
+    /// that. Switches nothing.
     fn reach(&mut self) -> Result<(), DriverFault>
         ensures fewer { (k : ℕ) → IsTrue (is_on self.new k) → IsTrue (is_on self.old k) }
         ensures looks { OnOk result (looks self.old self.new) };
 
-    /// Switches one coil. `Ok` only where the board has confirmed it. `before` is how the coils should stand. No other
-    /// coil comes on.
+    /// Switches one coil. `Ok` only where the board has confirmed it. `before` has the states that the coils should
+    /// have. No other coil comes on.
     fn switch(&mut self, ch: u8, on: bool, before: &Account) -> Result<(), DriverFault>
         ensures off { OnOk result (on ≡ false → is_on self.new ch ≡ false) }
         ensures others { (k : ℕ) → k ≢ ch → IsTrue (is_on self.new k) → IsTrue (is_on self.old k) }

@@ -12,7 +12,7 @@ pub struct Coils {
     /// The address of channel 1's coil, counted from 0.
     pub first: u16,
     pub channels: u8,
-    /// Whether the board is asked for the states after it was told to change them.
+    /// Whether the driver asks the board for the states after each change of them.
     pub verified: bool,
     ghost few: { channels ≤ 99 },
     ghost within: { first + channels ≤ 65536 },

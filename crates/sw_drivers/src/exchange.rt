@@ -10,7 +10,7 @@ use crate::frame::{
 };
 use crate::wire::Wire;
 
-/// How a board is asked: what stands round a frame, the frame's number, and the board's unit.
+/// How the driver asks a board: what wraps a frame, the frame's number, and the board's unit.
 #[derive(Clone, Copy, Debug, PartialEq, Eq)]
 pub struct Asking {
     pub wrapping: Wrapping,
@@ -43,7 +43,7 @@ pub fn change<L: Wire>(link: &mut L, asking: Asking, request: Request) -> Result
     }
 }
 
-/// Asks the board for the states of so many coils, by one exchange.
+/// Asks the board for the states of `count` coils, by one exchange.
 pub fn look<L: Wire>(
     link: &mut L,
     asking: Asking,
@@ -71,7 +71,7 @@ pub fn look<L: Wire>(
     states_in(wrapping, number, unit, count, answer.as_slice()).ok_or(DriverFault::Garbled)
 }
 
-/// Begins an exchange, and sends what is asked.
+/// Begins an exchange, and sends the request.
 fn ask<L: Wire>(link: &mut L, asking: Asking, request: Request) -> Result<(), DriverFault>
     requires { IsSmall request }
     ensures asked { OnOk result (IsAll (L.asked link.new)
@@ -120,7 +120,7 @@ fn receive<L: Wire>(link: &mut L, asking: Asking, request: Request) -> Result<Fr
     Ok(frame)
 }
 
-/// Hears so many bytes more.
+/// Hears `size` bytes more.
 fn hear_more<L: Wire>(link: &mut L, frame: &mut Frame, size: usize) -> Result<(), DriverFault>
     requires { length frame.old.items + size ≤ 32 }
     ensures answered { OnOk result ((more : List ℕ) × (L.answered link.new ≡ grown (L.answered link.old) more)

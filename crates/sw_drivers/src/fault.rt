@@ -1,4 +1,4 @@
-//! Why a call of a driver fails, and whom it tells.
+//! Why a call of a driver fails, and the trait of what takes its report.
 
 use std::fmt;
 use std::fmt::{Display, Formatter, Write};
@@ -7,15 +7,15 @@ use std::io::{self, ErrorKind};
 /// Why a call of a driver fails.
 #[derive(Clone, Copy, Debug, PartialEq, Eq, Drop)]
 pub enum DriverFault {
-    /// No connection is to be had, or it has ended.
+    /// The driver gets no connection, or it has ended.
     NoConnection(ErrorKind),
-    /// It has failed a short while ago, and is not tried again yet.
+    /// The connection failed a short while ago; the driver does not try it again yet.
     Resting,
     /// Nothing came in time.
     TimedOut,
     /// The board refuses, by this exception of Modbus.
     Exception(u8),
-    /// What came is no answer to what was asked.
+    /// What came is no answer to the request.
     Garbled,
     /// The answer is another than the one that is wanted.
     Unwanted,
@@ -50,7 +50,7 @@ impl Display for DriverFault {
     }
 }
 
-/// Whom a driver tells why a call of it has failed.
+/// Takes a driver's report of why a call of it failed.
 pub trait Told {
     fn tell(&self, slot: u8, fault: DriverFault);
 }

@@ -14,18 +14,18 @@ pub const FRAME: usize = 32;
 /// The most bytes that the states of a card's coils take.
 const MOST: usize = 13;
 
-/// What is asked of a board.
+/// A request to a board.
 #[derive(Clone, Copy, Debug, PartialEq, Eq)]
 pub enum Request {
-    /// The states of so many coils, from this one on.
+    /// The states of coils: the address of the first, and their count.
     Read(u16, u16),
     /// To switch this coil on or off.
     Write(u16, bool),
-    /// To switch off so many coils, from this one on.
+    /// To switch coils off: the address of the first, and their count.
     Clear(u16, u16),
 }
 
-/// What stands round what is asked.
+/// What wraps a request.
 #[derive(Clone, Copy, Debug, PartialEq, Eq)]
 pub enum Wrapping {
     Tcp,
@@ -35,7 +35,7 @@ pub enum Wrapping {
 /// A frame.
 pub type Frame = ArrayVec<u8, FRAME>;
 
-/// The frame by which the board of this unit is asked. The number is the frame's own, over TCP.
+/// The frame of a request to the board of this unit. The number is the frame's own, over TCP.
 pub fn frame_of(wrapping: Wrapping, number: u16, unit: u8, request: Request) -> Frame
     requires { IsSmall request }
     ensures { result.items ≡ frame wrapping number unit request }
@@ -94,7 +94,7 @@ fn body(unit: u8, request: Request) -> Frame
     bytes
 }
 
-/// How many bytes the states of so many coils take.
+/// The number of bytes for the states of `count` coils.
 pub fn bytes_for(count: u16) -> usize
     ensures { result ≡ bytes_for count }
 {
@@ -108,7 +108,7 @@ fn zeros() -> [u8; MOST]
     [0; MOST]
 }
 
-/// How many bytes the function and the data of an answer are that doesn't refuse.
+/// The number of bytes of the function and the data in an answer that doesn't refuse.
 pub fn answer_size(request: Request) -> usize
     requires { IsSmall request }
     ensures size { result ≡ answer_size request }
@@ -144,7 +144,7 @@ pub fn refusal_in(
     }
 }
 
-/// Whether these bytes are the answer of a board that has done what it was asked to change.
+/// Whether these bytes are the answer of a board that has made the requested change.
 pub fn is_done(wrapping: Wrapping, number: u16, unit: u8, request: Request, bytes: &[u8]) -> bool
     requires { IsSmall request }
     ensures { IsTrue result ↔ (bytes.now ≡ wrapped wrapping number (unit ∷ confirms request)) }
@@ -153,7 +153,7 @@ pub fn is_done(wrapping: Wrapping, number: u16, unit: u8, request: Request, byte
     bytes == confirming.as_slice()
 }
 
-/// The unit, and what the board of this unit answers that has done what it was asked to change.
+/// The unit, and the answer of its board after it has made the requested change.
 fn confirmation(unit: u8, request: Request) -> Frame
     ensures items { result.items ≡ unit ∷ confirms request }
     ensures size { length result.items ≤ 20 }
@@ -175,7 +175,7 @@ fn confirmation(unit: u8, request: Request) -> Frame
     bytes
 }
 
-/// The states of so many coils where these bytes are the answer that tells them.
+/// The states of `count` coils, where these bytes are the answer that has them.
 pub fn states_in(
     wrapping: Wrapping,
     number: u16,

@@ -4,7 +4,7 @@ use std::alloc::{AllocError, Global};
 use std::sync::Arc;
 use std::sync::atomic::{AtomicU64, Ordering};
 
-/// Which slots have not confirmed that their relays are off since they were told to be.
+/// The slots whose board has not yet confirmed that its relays are off, after the driver told it to switch them off.
 #[derive(Drop)]
 pub struct Interlock {
     unsure: Arc<AtomicU64, Global>,

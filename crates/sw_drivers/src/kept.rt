@@ -75,11 +75,11 @@ impl<B: Board, T: Told + Drop> Driver for Kept<B, T> {
 
     ghost sure = { λ d. d.2 };
 
-    // `Ok` only where the board has shown its coils to stand as the account says, and none is switched on while the
+    // `Ok` only where the board has shown that its coils are as the account says; the driver switches none on while the
     // last cut is not confirmed.
     ghost drives = { λ d ch on result e. OnOk result (B.shows e.0 e.1 × (IsTrue on → IsTrue d.2)) };
 
-    // The cut is confirmed by what the board has shown.
+    // What the board has shown confirms the cut.
     ghost cuts = { λ d e. IsTrue e.2 → B.shows e.0 e.1 × ((k : ℕ) → B.is_on e.0 k ≡ false) };
 
     fn drive(&mut self, ch: u8, on: bool) -> Result<(), CardFault> {

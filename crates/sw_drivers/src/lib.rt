@@ -1,11 +1,11 @@
-//! Drivers of hardware that others make: what stands on the wire, and what a card's coils and readings are by it.
+//! Drivers of hardware that others make: the bytes on the wire, and what they say of a card's coils and readings.
 //!
 //! The crate's contract to the layers above: a frame of Modbus is exactly that of the definitions (`specs/Frames`); a
 //! `Kept` board keeps the clauses of a driver over any board, and switches nothing on while another's relays may be
-//! closed against its account. A board that is reached is set up and asked how its coils stand, and is sent nothing
-//! else.
+//! closed against its account. To reach a board, a driver sets it up and asks for the states of its coils, and sends it
+//! nothing else.
 //!
-//! Nothing is promised of a board itself, nor of what a line carries.
+//! The crate promises nothing of a board itself, nor of what a line carries.
 #![tactic(auto)]
 
 mod banks;

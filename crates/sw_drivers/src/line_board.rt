@@ -13,7 +13,8 @@ use std::io::ErrorKind;
 /// The most bytes of an answer.
 const ANSWER: usize = 256;
 
-/// What is sent, and what must be in the answer, which ends by these bytes. Nothing is read where they are none.
+/// The bytes sent, the bytes that end the answer, and those that the answer must contain. Where no bytes end it, the
+/// driver reads none.
 #[derive(Drop)]
 pub struct Command {
     pub sent: Vec<u8>,
@@ -22,8 +23,9 @@ pub struct Command {
 }
 
 /// The lines that a board obeys: one for each channel to switch it on, one to switch it off, and some that switch all
-/// off. Where it tells how a channel stands, one for each channel that asks for it and wants it on, and the same that
-/// wants it off. The lines of the setup are sent whenever the board is reached anew; their answers are not awaited.
+/// off. Where the board answers a channel's state, one for each channel that asks for it and wants it on, and one that
+/// wants it off. The driver sends the lines of the setup each time it reaches the board anew; it does not await their
+/// answers.
 #[derive(Drop)]
 pub struct Commands {
     pub setup: Vec<Vec<u8>>,
@@ -50,12 +52,12 @@ impl<W: Wire> LineBoard<W> {
         LineBoard { wire, commands }
     }
 
-    /// Whether the board tells how its channels stand.
+    /// Whether the board answers its channels' states.
     fn tells(&self) -> bool {
         !self.commands.is_on.is_empty()
     }
 
-    /// Asks how this channel stands.
+    /// Asks whether this channel is on, or is off.
     fn ask(&mut self, ch: u8, on: bool) -> Result<(), DriverFault> {
         let asked = if on {
             obey_at(&mut self.wire, self.commands.is_on.as_slice(), ch)
@@ -68,7 +70,7 @@ impl<W: Wire> LineBoard<W> {
         }
     }
 
-    /// Compares the account with the board's own word, where it tells it.
+    /// Compares the account with the board's own answers, where it answers its channels' states.
     fn compare(&mut self, account: &Account) -> Result<(), DriverFault> {
         for before in 0..u8::MAX {
             if usize::from(before) >= self.commands.is_on.len() {
@@ -79,8 +81,8 @@ impl<W: Wire> LineBoard<W> {
         Ok(())
     }
 
-    /// Sees to it that the connection stands. A new one is made only where the board can tell that its channels do as
-    /// they should.
+    /// Keeps an open connection or makes a new one. It makes a new one only where the board can answer that its
+    /// channels are as the account says.
     fn stand(&mut self, account: &Account) -> Result<(), DriverFault> {
         if self.wire.is_open() && self.wire.begin().is_ok() {
             return Ok(());
@@ -132,7 +134,7 @@ impl<W: Wire> LineBoard<W> {
     }
 }
 
-/// Asks how each channel stands.
+/// Asks for each channel's state.
 fn look<W: Wire>(wire: &mut W, is_on: &[Command], is_off: &[Command]) -> Result<(), DriverFault>
     ensures { OnOk result (W.sent wire.new ≡ grown (W.sent wire.old) (all_sent is_on.now)) }
 {
@@ -145,7 +147,7 @@ fn look<W: Wire>(wire: &mut W, is_on: &[Command], is_off: &[Command]) -> Result<
     Ok(())
 }
 
-/// Asks how one channel stands: on or off.
+/// Asks for one channel's state: on or off.
 fn ask_either<W: Wire>(wire: &mut W, on: &Command, off: &Command) -> Result<(), DriverFault>
     ensures sent { OnOk result (W.sent wire.new ≡ grown (W.sent wire.old) on.now.sent.items) }
     ensures heard { OnOk result (on.now.end.items ≢ []
@@ -188,7 +190,7 @@ fn obey<W: Wire>(wire: &mut W, command: &Command) -> Result<(), DriverFault>
     }
 }
 
-/// Sends a command, hears its answer, where one is read, and tells how many bytes it has.
+/// Sends a command and hears its answer, where it has one to read. The number of bytes heard.
 fn ask<W: Wire>(
     wire: &mut W,
     command: &Command,
@@ -211,7 +213,7 @@ fn ask<W: Wire>(
     hear_line(wire, end, answer)
 }
 
-/// Hears up to these bytes, and tells how many bytes came.
+/// Hears bytes up to and with these. The number of bytes heard.
 fn hear_line<W: Wire>(
     wire: &mut W,
     end: &[u8],
@@ -237,7 +239,7 @@ fn hear_line<W: Wire>(
     Err(DriverFault::Garbled)
 }
 
-/// Whether these bytes stand somewhere in the text.
+/// Whether the text has these bytes somewhere.
 fn has(text: &[u8], wanted: &[u8]) -> bool
     ensures { IsTrue result ↔ Holds text.now wanted.now }
 {
@@ -274,7 +276,7 @@ impl<W: Wire> Board for LineBoard<W> {
         done
     }
 
-    /// Tries the connection that stands, and then a new one.
+    /// Tries the open connection, and then a new one.
     fn clear(&mut self) -> Result<(), DriverFault> {
         if self.wire.is_open() && self.try_clear().is_ok() {
             return Ok(());

@@ -19,7 +19,7 @@ pub enum Place {
     Tcp(SocketAddr),
     /// A file of a device, as `/dev/ttyUSB0`.
     Device(String),
-    /// A file of a device whose kernel driver waits by itself, as `/dev/usbtmc0`.
+    /// The file of a device; its kernel driver waits by itself, as that of `/dev/usbtmc0`.
     Waiting(String),
 }
 
@@ -30,10 +30,10 @@ enum Ends {
     Device(File),
 }
 
-/// How often what has come unasked is let go before an exchange.
+/// The most reads that drop unasked bytes before an exchange.
 const LEFTOVERS: u32 = 64;
 
-/// How long nothing is opened anew after that has failed, in milliseconds.
+/// How long nothing opens the connection anew after an opening has failed, in milliseconds.
 const REST_MS: u64 = 1000;
 
 /// A connection or a device file, with a limit of time for each exchange.
@@ -49,7 +49,7 @@ pub struct Link<R: Net<Stream = TcpStream> + Files<File = File> + Clock + Copy +
 }
 
 impl<R: Net<Stream = TcpStream> + Files<File = File> + Clock + Copy + Drop> Link<R> {
-    /// One that is not open yet. An exchange takes no longer than the limit, and begins after so long a silence.
+    /// One that is not open yet. An exchange takes no longer than `limit`, and begins after this `silence`.
     pub fn new(rt: R, place: Place, limit: Duration, silence: Duration) -> Self {
         Link {
             rt,

@@ -15,7 +15,7 @@ use sw_kinds::Source;
 /// The most bytes of an answer.
 const ANSWER: usize = 256;
 
-/// A meter that is set up by some lines whenever it is reached anew, and answers a query by a reading.
+/// A meter that some lines set up each time the driver reaches it anew, and that answers a query by a reading.
 #[derive(Drop)]
 pub struct ScpiMeter<W: Wire, T: Told + Drop> {
     wire: W,
@@ -26,8 +26,8 @@ pub struct ScpiMeter<W: Wire, T: Told + Drop> {
 }
 
 impl<W: Wire, T: Told + Drop> ScpiMeter<W, T> {
-    /// The meter at the other end, once it is reached and set up; or why not. No reading is asked for. Each line ends
-    /// as the meter wants it.
+    /// The meter at the other end, after the driver has reached it and set it up; or why not. The driver asks for no
+    /// reading. Each line ends as the meter wants it.
     pub fn new(
         wire: W,
         slot: u8,
@@ -67,7 +67,7 @@ impl<W: Wire, T: Told + Drop> ScpiMeter<W, T> {
     }
 }
 
-/// Reads up to a line feed, and tells how many bytes stand before it.
+/// Reads up to a line feed. The number of bytes before it.
 fn read_line<L: Wire>(link: &mut L, line: &mut [u8; ANSWER]) -> Result<usize, DriverFault>
     ensures { IfOk result (λ length. length ≤ 256) }
 {

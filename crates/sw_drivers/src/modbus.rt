@@ -12,7 +12,7 @@ use crate::fault::DriverFault;
 use crate::frame::{Frame, Request};
 use crate::wire::Wire;
 
-/// A board that switches coils and answers how they stand.
+/// A board that switches coils and answers their states.
 #[derive(Drop)]
 pub struct ModbusBoard<W: Wire> {
     wire: W,
@@ -48,7 +48,7 @@ impl<W: Wire> ModbusBoard<W> {
         }
     }
 
-    /// What the board tells of its coils.
+    /// The states of its coils, by the board's answer.
     fn states(&mut self) -> Result<Frame, DriverFault>
         ensures coils { self.new.coils ≡ self.old.coils }
         ensures fewer { Fewer (W.on self.old.wire) (W.on self.new.wire) }
@@ -65,7 +65,7 @@ impl<W: Wire> ModbusBoard<W> {
         )
     }
 
-    /// Compares the account with the board's own word.
+    /// Compares the account with the board's own answer.
     fn compare(&mut self, account: &Account) -> Result<(), DriverFault>
         ensures coils { self.new.coils ≡ self.old.coils }
         ensures fewer { Fewer (W.on self.old.wire) (W.on self.new.wire) }
@@ -79,7 +79,7 @@ impl<W: Wire> ModbusBoard<W> {
         }
     }
 
-    /// Sees to it that the connection stands, and that the coils do as they should, where it is a new one.
+    /// Keeps an open connection, or makes a new one and compares the coils with the account.
     fn stand(&mut self, account: &Account) -> Result<(), DriverFault>
         ensures coils { self.new.coils ≡ self.old.coils }
         ensures fewer { Fewer (W.on self.old.wire) (W.on self.new.wire) }
@@ -146,7 +146,7 @@ impl<W: Wire> ModbusBoard<W> {
     }
 }
 
-/// The first of so many channels whose coil doesn't stand as the account says.
+/// The first of `channels` channels whose coil isn't as the account says.
 fn first_other(states: &[u8], channels: u8, account: &Account) -> Option<u8>
     requires { (channels + 7) / 8 ≤ length states.now }
     ensures { IfNone result ((k : ℕ) → k < channels
@@ -186,7 +186,7 @@ impl<W: Wire> Board for ModbusBoard<W> {
         done
     }
 
-    /// Tries the connection that stands, and then a new one.
+    /// Tries the open connection, and then a new one.
     fn clear(&mut self) -> Result<(), DriverFault> {
         if self.wire.is_open() && self.try_clear().is_ok() {
             return Ok(());

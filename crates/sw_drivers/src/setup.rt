@@ -1,4 +1,4 @@
-//! Lines that set up what is reached.
+//! Lines that set up a board or a meter.
 
 ghost use Rattle.std.specs.Prelude.{◌≡◌, OnOk};
 ghost use Rattle.sw_drivers.specs.Lines.{all_lines};

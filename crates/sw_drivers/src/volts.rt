@@ -9,8 +9,8 @@ ghost use Rattle.sw_drivers.specs.declared.fault.DriverFault.{DriverFault as Fau
 use crate::fault::DriverFault;
 use sw_base::{Nrf, Reading, read_exponent, read_mantissa};
 
-/// The reading that stands at the front of an answer, in volts, to the nearest nanovolt, a half away from zero. What is
-/// past an `i64` of nanovolts, as `+9.9E+37` is, is an overload. Garbled where no number stands there, or the one that
+/// The reading at the front of an answer, in volts, to the nearest nanovolt, a half away from zero. One past an `i64`
+/// of nanovolts, as `+9.9E+37`, is an overload. Garbled where the answer begins with no number, or with the one that
 /// says that there is none (9.91E37; SCPI-1999, 7.2.1.5).
 pub fn reading_of(answer: &[u8]) -> Result<Reading, DriverFault>
     ensures reading { IfOk result (λ reading. IsReading answer.now reading) }

@@ -1,4 +1,4 @@
-//! What boards and meters are reached by.
+//! The ways to boards and meters.
 
 use std::io;
 
@@ -26,15 +26,15 @@ pub trait Wire: Drop {
     /// Whether this unit's coil at this address is on, as far as is known.
     ghost on: { Self → ℕ → ℕ → Bool };
 
-    /// Opens it anew. What stood open before is closed.
+    /// Opens it anew, and closes it first where it was open.
     fn open(&mut self) -> io::Result<()>
         ensures sent { sent self.new ≡ sent self.old }
         ensures fewer { Fewer (on self.old) (on self.new) };
 
-    /// Whether it stands open, as far as is known.
+    /// Whether it is open, as far as this end knows.
     fn is_open(&self) -> bool;
 
-    /// Begins an exchange: lets go what has come unasked, and sets the time. Fails where the other side has ended it.
+    /// Begins an exchange: drops bytes that came unasked, and sets the time. Fails where the other side has ended it.
     fn begin(&mut self) -> io::Result<()>
         ensures asked { OnOk result (IsAll (asked self.new) []) }
         ensures answered { OnOk result (IsAll (answered self.new) []) }
@@ -57,7 +57,7 @@ pub trait Wire: Drop {
         ensures fewer { Fewer (on self.old) (on self.new) }
         ensures honest { OnOk result (IsHonest (asked self.new) (answered self.new) (on self.new)) };
 
-    /// Hears what comes, no more than there is room for, and tells how much; 0 where no more comes.
+    /// Hears what comes, no more than there is room for. The number of bytes heard; 0 where no more comes.
     fn hear_some(&mut self, room: &mut [u8]) -> io::Result<usize>
         ensures within { IfOk result (λ n. n ≤ length room.new) }
         ensures answered { IfOk result (λ n. answered self.new ≡ grown (answered self.old) (take n room.new)) }
@@ -70,7 +70,7 @@ pub trait Wire: Drop {
         ensures sent { sent self.new ≡ sent self.old }
         ensures fewer { Fewer (on self.old) (on self.new) };
 
-    /// Closes it, and lets nothing be opened for a while.
+    /// Closes it, and keeps it closed for a while.
     fn rest(&mut self)
         ensures sent { sent self.new ≡ sent self.old }
         ensures fewer { Fewer (on self.old) (on self.new) };

@@ -12,7 +12,7 @@ const CLEARED: &[u8] = &[0, 1, 0, 0, 0, 6, 1, 15, 0, 8, 0, 3];
 
 const NONE_ON: &[u8] = &[0, 2, 0, 0, 0, 4, 1, 1, 1, 0];
 
-/// What is asked of it then.
+/// The requests that it gets then.
 const START: &[u8] = &[
     b'!', 0, 1, 0, 0, 0, 8, 1, 15, 0, 8, 0, 3, 1, 0, 0, 2, 0, 0, 0, 6, 1, 1, 0, 8, 0, 3,
 ];
@@ -112,8 +112,8 @@ fn what_is_read_back_decides(rt: HostRuntime) -> Result<(), Fail> {
     Ok(())
 }
 
-/// A board that doesn't answer a cut: whether its slot is unsure then, and alone says so, nothing is switched on in
-/// another slot, and is again after the cut that it answers.
+/// A board that doesn't answer a cut: whether its slot, and no other, then says that it is unsure; whether no driver
+/// switches a coil on in another slot, and one does again after the cut that the board answers.
 fn holds_others<W: Wait + Copy + Drop>(rt: W, alloc: Global) -> Option<bool> {
     let record = Record::new(rt, alloc).ok()?;
     let interlock = Interlock::new(alloc).ok()?;
@@ -153,7 +153,7 @@ fn a_board_begins_with_all_off(rt: HostRuntime) -> Result<(), Fail> {
     Ok(())
 }
 
-/// A board that answers no cut is tried by the connection that stands, once by a new one, and then rests.
+/// A driver tries a board that answers no cut by the open connection, once by a new one, and then rests.
 fn rests<W: Wait + Copy + Drop>(rt: W, alloc: Global) -> Option<bool> {
     let record = Record::new(rt, alloc).ok()?;
     let interlock = Interlock::new(alloc).ok()?;

@@ -5,7 +5,7 @@ ghost use Rattle.sw_drivers.specs.Frames.{IsSmall};
 use std::test::Fail;
 use sw_drivers::{Request, Wrapping, checksum, frame_of};
 
-/// Whether this is the frame by which unit 17 is asked over a serial line.
+/// Whether this is the frame of a request to unit 17 over a serial line.
 fn is_rtu(request: Request, bytes: &[u8]) -> bool
     requires { IsSmall request }
 {

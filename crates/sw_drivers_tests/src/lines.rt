@@ -23,7 +23,8 @@ fn one(alloc: Global, sent: &[u8], end: &[u8], wanted: &[u8]) -> Result<Vec<Comm
     Ok(commands)
 }
 
-/// A board of one channel that answers by lines, and tells how it stands. One line sets it up, which it doesn't answer.
+/// A board of one channel that answers by lines, and answers its channel's state. One line sets it up; it doesn't
+/// answer that one.
 fn telling(alloc: Global) -> Result<Commands, AllocError> {
     let mut setup = Vec::new(alloc);
     setup.push(text(alloc, b"*RST\n")?)?;
@@ -37,7 +38,7 @@ fn telling(alloc: Global) -> Result<Commands, AllocError> {
     })
 }
 
-/// A board of one channel that answers by lines, and tells nothing.
+/// A board of one channel that answers by lines, but not its channel's state.
 fn mute(alloc: Global) -> Result<Commands, AllocError> {
     Ok(Commands {
         setup: Vec::new(alloc),
@@ -107,7 +108,7 @@ fn reaches<W: Wait + Copy + Drop>(
     }
 }
 
-/// A board is reached by its setup and its state's query, whichever way the channel stands; nothing is switched.
+/// A driver reaches a board by its setup and its state's query, with the channel on or off; it switches nothing.
 #[test]
 fn a_board_is_reached_and_not_switched(rt: HostRuntime) -> Result<(), Fail> {
     let alloc = rt.alloc();
@@ -133,8 +134,8 @@ fn a_board_is_reached_and_not_switched(rt: HostRuntime) -> Result<(), Fail> {
     Ok(())
 }
 
-/// The other side ends the connection while it is idle: a board that tells how it stands is reached anew and set up
-/// again, and compared with the account before it is switched.
+/// The other side ends the connection while it is idle: the driver reaches a board that answers its states anew, sets
+/// it up again, and compares it with the account before it switches it.
 fn switches_anew<W: Wait + Copy + Drop>(rt: W, alloc: Global, state: &[u8]) -> Option<bool> {
     let record = Record::new(rt, alloc).ok()?;
     let interlock = Interlock::new(alloc).ok()?;
@@ -165,8 +166,8 @@ fn a_board_that_tells_is_reached_anew(rt: HostRuntime) -> Result<(), Fail> {
     Ok(())
 }
 
-/// One that tells nothing may have lost its supply meanwhile: its next call fails, with nothing sent, and the cut that
-/// follows reaches it anew.
+/// One that doesn't answer its state may have lost its supply meanwhile: its next call fails, with nothing sent, and
+/// the cut that follows reaches it anew.
 fn fails_once<W: Wait + Copy + Drop>(rt: W, alloc: Global) -> Option<bool> {
     let record = Record::new(rt, alloc).ok()?;
     let interlock = Interlock::new(alloc).ok()?;

@@ -1,4 +1,4 @@
-//! Readings as meters write them, and a meter that is asked for one.
+//! Readings as meters write them, and a request to a meter for one.
 
 use crate::script::{Deaf, Record, Script};
 use std::alloc::Global;
@@ -8,7 +8,7 @@ use sw_base::Reading;
 use sw_drivers::{ScpiMeter, reading_of};
 use sw_kinds::Source;
 
-/// Whether the answer is so many nanovolts.
+/// Whether the answer is `nanovolts` nanovolts.
 fn is_volts(answer: &[u8], nanovolts: i64) -> bool {
     match reading_of(answer) {
         Ok(Reading::Volts(volts)) => volts == nanovolts,

@@ -1,11 +1,11 @@
-//! A wire whose answers stand in a list, and whom a driver tells.
+//! A wire with its answers in a list, and a record that takes a driver's reports.
 
 use std::alloc::{AllocError, Global};
 use std::io::{self, ErrorKind};
 use std::sync::{Arc, Mutex, Wait};
 use sw_drivers::{DriverFault, Told, Wire};
 
-/// What was sent and what was told, outside the driver.
+/// What the driver sent and what it reported, outside the driver.
 #[derive(Drop)]
 pub struct Record<W: Wait + Copy + Drop> {
     rt: W,
@@ -31,7 +31,7 @@ impl<W: Wait + Copy + Drop> Record<W> {
         let _ = self.sent.lock(&self.rt).extend_from_slice(bytes);
     }
 
-    /// Whether exactly these bytes were put, and lets them go.
+    /// Whether exactly these bytes were put; it drops them.
     pub fn took(&self, bytes: &[u8]) -> bool {
         let mut sent = self.sent.lock(&self.rt);
         let is_so = sent.as_slice() == bytes;
@@ -40,9 +40,9 @@ impl<W: Wait + Copy + Drop> Record<W> {
     }
 }
 
-/// A wire that answers each exchange by the next of its answers, a byte at a time. An answer of no bytes is none: what
-/// is heard then fails for time. A `!` put into the record is an opening, a `.` a closing, a `-` a rest. The other side
-/// can end a connection that stands idle, after so many exchanges.
+/// A wire that answers each exchange by the next of its answers, a byte at a time. An answer of no bytes is none:
+/// hearing then fails for time. A `!` put into the record is an opening, a `.` a closing, a `-` a rest. The other side
+/// can end an idle connection, after `ends_after` exchanges.
 #[derive(Drop)]
 pub struct Script<W: Wait + Copy + Drop> {
     record: Record<W>,
@@ -71,7 +71,7 @@ impl<W: Wait + Copy + Drop> Script<W> {
         })
     }
 
-    /// The same, whose first connection is ended by the other side after so many exchanges.
+    /// The same; the other side ends its first connection after `exchanges` exchanges.
     pub fn ended_after(mut self, exchanges: usize) -> Self {
         self.ends_after = exchanges;
         self
@@ -150,7 +150,7 @@ impl<W: Wait + Copy + Drop> Wire for Script<W> {
     }
 }
 
-/// Whom nothing needs to be told.
+/// Takes a driver's reports and ignores them.
 #[derive(Clone, Copy, Drop)]
 pub struct Deaf;
 

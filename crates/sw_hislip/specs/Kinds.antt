@@ -43,7 +43,7 @@ kind_number AsyncLockInfoResponse = 25
 kind_number (Undefined n) = n
 kind_number (Vendor n) = n
 
--- what stands for a number is in its range, so that each number from 0 to 255 is of one kind
+-- the number in a kind is in that kind's range, so that each number from 0 to 255 is of one kind
 abbrev pub IsKind : Kind → Type 0
 IsKind (Undefined n) = (26 ≤ n) × (n < 128)
 IsKind (Vendor n) = (128 ≤ n) × (n < 256)

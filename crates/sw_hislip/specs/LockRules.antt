@@ -16,11 +16,11 @@ NobodyShares l = (other : ℕ) → IsSession other → key_of l other ≡ None
 abbrev pub NoOtherShares : LockTable → ℕ → Type 0
 NoOtherShares l sid = (other : ℕ) → IsSession other → other ≢ sid → key_of l other ≡ None
 
--- whoever shares a lock has this key
+-- each session that shares a lock has this key
 abbrev pub AllHaveKey : LockTable → List ℕ → Type 0
 AllHaveKey l key = (other : ℕ) (held : List ℕ) → IsSession other → key_of l other ≡ Some held → held ≡ key
 
--- A session is admitted where no other holds the exclusive lock, and nobody or itself shares one.
+-- The table admits a session where no other holds the exclusive lock, and no session shares a lock or this one does.
 abbrev pub Admits : LockTable → ℕ → Type 0
 Admits l sid = NoOtherExcludes l sid × (NobodyShares l ⊎ (shares l sid ≡ true))
 
@@ -37,8 +37,8 @@ pub record AreRules (l : LockTable) (sid : ℕ) : Type 0 where
 
 -- ---- order
 
--- What holds at all times: whoever holds the exclusive lock is a session; all that share a lock have one key; and
--- beside the exclusive lock only those share one with whom its holder shares it.
+-- What holds at all times: the holder of the exclusive lock is a session; all sessions that share a lock have one key;
+-- and beside the exclusive lock only sessions share one with which its holder shares it.
 pub record IsOrderly (l : LockTable) : Type 0 where
   pub sessions : length l.keys ≡ most_sessions
   pub holder : (sid : ℕ) → l.exclusive ≡ Some sid → IsSession sid
@@ -46,7 +46,7 @@ pub record IsOrderly (l : LockTable) : Type 0 where
   pub beside : (holder other : ℕ) (k : List ℕ) → l.exclusive ≡ Some holder → IsSession other
       → key_of l other ≡ Some k → key_of l holder ≡ Some k
 
--- what a session does: it asks by a key and is answered so, releases, or leaves
+-- what a session does: it asks by a key and gets this answer, releases, or leaves
 pub data LockTurn : Type 0 where
   asks : ℕ → List ℕ → LockReply → LockTurn
   releases : ℕ → LockTurn

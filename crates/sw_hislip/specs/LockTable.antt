@@ -1,5 +1,5 @@
--- The locks that are held, and the rules by which they are granted (IVI-6.1 HiSLIP, lock transaction; what is said to
--- be own there is this project's choice).
+-- The table of the sessions' locks, and the rules by which the server grants them (IVI-6.1 HiSLIP, lock transaction; a
+-- rule marked own is this project's choice).
 use Rattle.std.specs.Prelude.{◌≡◌, ℕ, zero, suc, ◌+◌, ◌-◌, Bool, true, false, not, ◌==◌, ◌&&◌, ◌||◌, nat_lt, List, []}
 use Rattle.std.specs.Prelude.{◌∷◌, length, replicate, slice_set, slice_index_or, Option, None, Some, is_some, is_none}
 use Rattle.std.specs.Prelude.{if◌then◌else◌}
@@ -19,7 +19,7 @@ pub record LockTable : Type 0 where
 abbrev pub no_locks : LockTable
 no_locks = record { exclusive = None; keys = replicate most_sessions None }
 
--- ---- who holds what
+-- ---- the locks that each session holds
 
 -- the key by which the session shares a lock
 abbrev pub key_of : LockTable → ℕ → Option (List ℕ)
@@ -42,7 +42,7 @@ other_excludes l sid = is_some l.exclusive && not (excludes l sid)
 abbrev pub nobody_shares : LockTable → Bool
 nobody_shares l = list_all is_none l.keys
 
--- this is the key, where one is held
+-- this is the key, where there is one
 abbrev pub agrees : List ℕ → Option (List ℕ) → Bool
 agrees key None = true
 agrees key (Some held) = bytes_eq held key
@@ -62,7 +62,7 @@ holders l (suc n) = holders l n + (if holds l (suc n) then 1 else 0)
 
 -- ---- the rules
 
--- The session is admitted: no other holds the exclusive lock, and nobody or itself shares one.
+-- The table admits the session: no other holds the exclusive lock, and no session shares a lock or this one does.
 abbrev pub admits : LockTable → ℕ → Bool
 admits l sid = not (other_excludes l sid) && (nobody_shares l || shares l sid)
 
@@ -92,14 +92,14 @@ abbrev pub granted : LockTable → ℕ → List ℕ → LockTable
 granted l sid [] = record { exclusive = Some sid; keys = l.keys }
 granted l sid (b ∷ key) = with_key l sid (Some (b ∷ key))
 
--- What is answered to an ask that is an error or not, and that is due or not; the locks before it, once it is granted,
--- and after it. An error goes before a lock that is not due.
+-- The answer to an ask that is an error or not, and that is due or not; the locks before it, once it is granted, and
+-- after it. An error has precedence over a lock that is not due.
 abbrev pub RepliesBy : Bool → Bool → LockTable → LockTable → LockReply → LockTable → Type 0
 RepliesBy wrong due old after Granted new = (wrong ≡ false) × (due ≡ true) × (new ≡ after)
 RepliesBy wrong due old after NotNow new = (wrong ≡ false) × (due ≡ false) × (new ≡ old)
 RepliesBy wrong due old after Wrong new = (wrong ≡ true) × (new ≡ old)
 
--- What is answered to an ask, and the locks after it.
+-- The answer to an ask, and the locks after it.
 abbrev pub Replies : LockTable → ℕ → List ℕ → LockReply → LockTable → Type 0
 Replies old sid key reply new =
     RepliesBy (is_wrong old sid key) (grants old sid key) old (granted old sid key) reply new

@@ -8,7 +8,7 @@ use Rattle.sw_hislip.specs.declared.header.Header.{Header}
 use Rattle.sw_hislip.specs.declared.message.Message.{Message}
 use Rattle.sw_hislip.specs.Wire.{HasHeader, wire, IsWireMessage}
 
--- the most bytes of a payload that is taken
+-- the most bytes of a payload that the decoder takes
 abbrev pub longest_payload : ℕ
 longest_payload = most_bytes
 
@@ -22,7 +22,7 @@ pub record DecoderSeen : Type 0 where
   pub pending : Pending
   pub room : ℕ
 
--- Nothing is kept of a payload that is skipped, and of what was taken no more than of what is pending.
+-- The decoder keeps nothing of a payload that it skips, and of what was taken no more than of what is pending.
 pub record IsLean (d : DecoderSeen) : Type 0 where
   pub skipped : 0 < d.pending.skip → d.room ≡ 0
   pub held : length d.pending.bytes ≤ d.room
@@ -32,7 +32,7 @@ pub record IsLean (d : DecoderSeen) : Type 0 where
 abbrev pub nothing_fed : Pending
 nothing_fed = record { bytes = []; skip = 0 }
 
--- after a piece of the stream: what is skipped of it is not kept
+-- after a piece of the stream: the decoder keeps nothing of what it skips
 abbrev pub fed : Pending → List ℕ → Pending
 fed p piece = record { bytes = p.bytes ++ drop p.skip piece; skip = p.skip - length piece }
 
@@ -41,18 +41,18 @@ pub record HasWrongPrologue (bytes : List ℕ) : Type 0 where
   pub header : 16 ≤ length bytes
   pub wrong : take 2 bytes ≢ 0x48 ∷ 0x53 ∷ []
 
--- a whole message that is taken stands at the front, and more follows it
+-- the bytes begin with a whole message, not too large, and more follows it
 pub record HasMessage (bytes : List ℕ) (m : Message) (more : List ℕ) : Type 0 where
   pub whole : bytes ≡ wire m ++ more
   pub proper : IsWireMessage m
   pub fits : length m.payload ≤ longest_payload
 
--- the header of a payload that is too large stands at the front, and so much of the payload
+-- the bytes begin with the header of a payload that is too large, and this much of the payload
 pub record IsTooLarge (bytes : List ℕ) (h : Header) (got : List ℕ) : Type 0 where
   pub begins : HasHeader bytes h got
   pub large : longest_payload < h.length
 
--- the header of a payload that is taken stands at the front, and less than that payload
+-- the bytes begin with the header of a payload that is not too large, and less than that payload
 pub record LacksPayload (bytes : List ℕ) : Type 0 where
   pub h : Header
   pub got : List ℕ
@@ -60,24 +60,24 @@ pub record LacksPayload (bytes : List ℕ) : Type 0 where
   pub fits : h.length ≤ longest_payload
   pub lacks : length got < h.length
 
--- no message is whole, and no fault is to be seen: less than a header is there, or less than its payload
+-- no whole message, and no fault in sight: less than a header is there, or less than its payload
 abbrev pub Waits : List ℕ → Type 0
 Waits bytes = (length bytes < 16) ⊎ LacksPayload bytes
 
--- after so many bytes were taken from the front
+-- without n bytes at the front
 abbrev pub without_front : Pending → ℕ → Pending
 without_front p n = record { bytes = drop n p.bytes; skip = p.skip }
 
--- after so much of a payload of n bytes that is skipped
+-- with this much of a payload of n bytes that the decoder skips
 abbrev pub skipping : List ℕ → ℕ → Pending
 skipping got n = record { bytes = drop n got; skip = n - length got }
 
--- What is answered to the bytes at the front, and what is pending after it.
+-- What the decoder gives for the bytes at the front, and what is pending after it.
 abbrev pub GivesNext : Pending → Result (Option Message) WireFault → Pending → Type 0
 GivesNext old (Ok (Some m)) new = HasMessage old.bytes m new.bytes × (new.skip ≡ old.skip)
 GivesNext old (Ok None) new = Waits old.bytes × (new ≡ old)
 GivesNext old (Err BadPrologue) new = HasWrongPrologue old.bytes × (new ≡ old)
--- what is there of the payload is dropped, the rest of it is to be skipped
+-- the decoder drops what is there of the payload, and has the rest of it to skip
 GivesNext old (Err (TooLarge kind)) new =
     (h : Header) × (got : List ℕ) × IsTooLarge old.bytes h got × (h.kind ≡ kind) × (new ≡ skipping got h.length)
 -- there is a message, and no memory for its payload

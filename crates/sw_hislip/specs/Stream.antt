@@ -56,7 +56,8 @@ told (feeds piece ∷ calls) = told calls
 
 -- ---- a decoder's place in the stream
 
--- The front of a message whose payload is too large and is skipped; `skip` of its bytes are still to come.
+-- The front of a message with a payload that is too large and that the decoder skips; `skip` of its bytes are still to
+-- come.
 pub record IsSkipped (rest : List ℕ) (kind : Kind) (skip : ℕ) : Type 0 where
   pub h : Header
   pub got : List ℕ
@@ -66,8 +67,8 @@ pub record IsSkipped (rest : List ℕ) (kind : Kind) (skip : ℕ) : Type 0 where
   pub missing : length got + skip ≡ h.length
   pub some : 0 < skip
 
--- A decoder gave these messages, and the rest is pending; or the rest is the front of a message that it skips, whose
--- kind it gave too.
+-- A decoder gave these messages, and the rest is pending; or the rest is the front of a message that it skips; it gave
+-- that one's kind too.
 abbrev pub Leaves : List Message → List ℕ → List (Result Message Kind) → Pending → Type 0
 Leaves messages rest told p =
     ((told ≡ map told_of messages) × (p ≡ record { bytes = rest; skip = 0 }))

@@ -50,8 +50,8 @@ impl Decoder {
         }
     }
 
-    /// Takes the next piece of the stream. Bytes of a payload that is skipped are dropped and take no memory. Refused
-    /// is only want of memory, and then nothing changed.
+    /// Takes the next piece of the stream. It drops bytes of a payload that it skips; they take no memory. The only
+    /// error is a lack of memory, and then nothing changed.
     pub fn feed(&mut self, piece: &[u8]) -> Result<(), AllocError>
         ensures fed { OnOk result (self.new.pending ≡ fed self.old.pending piece.now) }
         ensures kept { OnErr result (self.new ≡ self.old) }
@@ -70,8 +70,8 @@ impl Decoder {
 
     /// The next message; none where it is not whole yet. A header is judged once its 16 bytes are there.
     ///
-    /// `BadPrologue` changes nothing, so it is answered again. `TooLarge` is answered once, and the payload is then
-    /// skipped. `NoMemory` changes nothing.
+    /// `BadPrologue` changes nothing, so it comes again. `TooLarge` comes once; then the decoder skips the payload.
+    /// `NoMemory` changes nothing.
     pub fn next(&mut self, alloc: Global) -> Result<Option<Message>, WireFault>
         ensures given { GivesNext self.old.pending result self.new.pending }
         ensures lean { IsLean self.new }

@@ -7,7 +7,7 @@ use crate::header::HEADER;
 use crate::message::Message;
 use std::alloc::{AllocError, Global};
 
-/// The wire form of a message: its header of 16 bytes, and its payload. Only want of memory is refused.
+/// The wire form of a message: its header of 16 bytes, and its payload. The only error is a lack of memory.
 pub fn encode(alloc: Global, message: &Message) -> Result<Vec<u8>, AllocError>
     ensures { IfOk result (λ bytes. bytes.items ≡ wire message.now) }
 {
@@ -16,8 +16,8 @@ pub fn encode(alloc: Global, message: &Message) -> Result<Vec<u8>, AllocError>
     Ok(bytes)
 }
 
-/// Leaves the wire form of a message in `bytes`, in place of what was there, whose memory is used again. Only want of
-/// memory is refused.
+/// Leaves the wire form of a message in `bytes`, in place of what was there, and uses its memory again. Only a lack of
+/// memory is an error.
 pub fn encode_into(message: &Message, bytes: &mut Vec<u8>) -> Result<(), AllocError>
     ensures { IfOk result (λ _. bytes.new.items ≡ wire message.now) }
 {

@@ -7,7 +7,8 @@ use crate::kind::Kind;
 pub enum WireFault {
     /// A header doesn't begin with `HS`. The decoder answers so from then on.
     BadPrologue,
-    /// The payload of a message of this kind has more than 65,536 bytes. It is told once, and the payload is skipped.
+    /// The payload of a message of this kind has more than 65,536 bytes. The decoder reports it once, and skips the
+    /// payload.
     TooLarge(Kind),
     /// There is no memory for the payload; nothing changed.
     NoMemory,

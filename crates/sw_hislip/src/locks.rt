@@ -1,4 +1,4 @@
-//! Who holds the locks of the instrument.
+//! The sessions that hold the locks of the instrument.
 
 ghost use Rattle.std.specs.Prelude.{◌≡◌, ◌≤◌, true, false, is_some, is_none, [], Some, None, IfOk, OnErr};
 ghost use Rattle.std.specs.List.{list_all};
@@ -18,7 +18,7 @@ const LOCK_PLACES: usize = SESSIONS as usize;
 /// The most bytes of a key (IVI-6.1 HiSLIP, lock transaction).
 const LONGEST_KEY: usize = 256;
 
-/// What is answered to a session that asks for a lock.
+/// The answer to a session that asks for a lock.
 #[derive(Clone, Copy, Debug, PartialEq, Eq)]
 pub enum LockReply {
     Granted,
@@ -37,7 +37,7 @@ pub enum Released {
     Nothing,
 }
 
-/// The locks that are held: at most one session holds the exclusive lock; those that share one hold it by a key.
+/// The sessions' locks: at most one session holds the exclusive lock; those that share one hold it by a key.
 ///
 /// Contracts see a `LockTable`: the session with the exclusive lock, and the key of each session that shares one.
 #[derive(Debug, Drop)]
@@ -45,7 +45,7 @@ pub struct Locks {
     exclusive: Option<u8>,
     /// The keys of the sessions, by number from 1.
     keys: [Option<Sequence<u8>>; LOCK_PLACES],
-    /// No key is held.
+    /// No session holds a key.
     unshared: bool,
 }
 
@@ -65,7 +65,7 @@ impl Model for Locks {
 }
 
 impl Locks {
-    /// No lock is held.
+    /// No session holds a lock.
     pub fn new() -> Locks
         ensures { result ≡ no_locks }
     {
@@ -80,8 +80,8 @@ impl Locks {
     }
 
     /// A session asks for a lock: for the exclusive one by an empty key, else for the shared one by its key. `Wrong`
-    /// goes before `NotNow`. Refused is only want of memory for the key of a shared lock that is due. Only `Granted`
-    /// changes anything.
+    /// has precedence over `NotNow`. The only error is a lack of memory for the key of a shared lock that is due. Only
+    /// `Granted` changes anything.
     pub fn ask(&mut self, alloc: Global, sid: u8, key: &[u8]) -> Result<LockReply, AllocError>
         requires { (1 ≤ sid) × (sid ≤ most_sessions) }
         ensures replied { IfOk result (λ reply. Replies self.old sid key.now reply self.new) }
@@ -120,7 +120,7 @@ impl Locks {
         !self.other_excludes(sid) && (self.unshared || self.shares(sid))
     }
 
-    /// Whether the exclusive lock is held, and how many sessions hold a lock.
+    /// Whether a session holds the exclusive lock, and how many sessions hold a lock.
     #[tactic(auto, unfolding(crate::specs::LockTable::holders))]
     pub fn info(&self) -> (bool, u8)
         ensures exclusive { result.0 ≡ is_some self.now.exclusive }
@@ -231,7 +231,7 @@ impl Locks {
     }
 }
 
-/// Whether no key is held.
+/// Whether no session holds a key.
 fn none_held(keys: &[Option<Sequence<u8>>]) -> bool
     ensures { result ≡ list_all is_none keys.now }
 {
@@ -243,7 +243,7 @@ fn none_held(keys: &[Option<Sequence<u8>>]) -> bool
     true
 }
 
-/// Whether all keys that are held are this one.
+/// Whether every session that holds a key holds this one.
 fn all_agree(keys: &[Option<Sequence<u8>>], key: &[u8]) -> bool
     ensures { result ≡ list_all (agrees key.now) keys.now }
 {
@@ -255,7 +255,7 @@ fn all_agree(keys: &[Option<Sequence<u8>>], key: &[u8]) -> bool
     true
 }
 
-/// Whether this is the key, where one is held.
+/// Whether this is the key, where there is one.
 fn agrees(held: &Option<Sequence<u8>>, key: &[u8]) -> bool
     ensures { result ≡ agrees key.now held.now }
 {

@@ -17,7 +17,7 @@ is_failing true None = false
 is_failing true (Some left) = left == 1
 
 -- One call through the fuse of closings, by what a call of the driver behind it does and leaves driven: it passes, but
--- at the failing closing it reports a fault, and the driver behind it was asked all the same.
+-- at the failing closing it reports a fault, and the driver behind it got the call all the same.
 pub record DrivesByFuse {D : Type 0}
     (drives : D → ℕ → Bool → Result (Unit {0}) CardFault → D → Type 0) (driven : D → ℕ → Bool)
     (old : D × Option ℕ) (ch : ℕ) (on : Bool) (result : Result (Unit {0}) CardFault) (new : D × Option ℕ) : Type 0 where

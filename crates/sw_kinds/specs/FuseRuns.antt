@@ -3,7 +3,7 @@ use Rattle.std.specs.Prelude.{◌≡◌, ℕ, ◌+◌, ◌↔◌, Bool, true, fa
 use Rattle.std.specs.Prelude.{if◌then◌else◌, Result, Ok, IsErr}
 use Rattle.sw_card.specs.declared.board.CardFault.{CardFault}
 
--- a call of a driver: a channel is asked for, on or off, or the supply is cut
+-- a call of a driver: it drives a channel, on or off, or cuts the supply
 pub data DriverCall : Type 0 where
   switch : (ch : ℕ) → (on : Bool) → DriverCall
   cut : DriverCall

@@ -4,7 +4,7 @@ use Rattle.sw_base.specs.Limits.{most_channels}
 use Rattle.sw_card.specs.Account.{Account, closed_at}
 use Rattle.sw_card.specs.Mask.{states_of}
 
--- A row of so many channels counts every driven channel among the closed ones.
+-- A row of `channels` channels counts every driven channel among the closed ones.
 pub record HoldsDriven (driven : ℕ → Bool) (channels mask : ℕ) : Type 0 where
   pub some : 1 ≤ channels
   pub few : channels ≤ most_channels

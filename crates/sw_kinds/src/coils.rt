@@ -1,4 +1,4 @@
-//! The coils of a card: its driver, which is let go only with its supply cut.
+//! The coils of a card: its driver, which code can drop only with its supply cut.
 
 ghost use Rattle.std.specs.Prelude.{◌≡◌, ◌≢◌, ℕ, Bool, false, OnOk};
 
@@ -18,7 +18,7 @@ impl<D: Driver> Model for Coils<D> {
 }
 
 impl<D: Driver> Drop for Coils<D> {
-    /// Whoever lets it go shows that nothing is driven any more.
+    /// Code that drops it proves that no channel is driven any more.
     fn drop(self)
         requires { (k : ℕ) → D.driven self k ≡ false }
     {

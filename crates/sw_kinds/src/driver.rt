@@ -13,7 +13,7 @@ pub trait Driver: Drop {
     // Whether the channel's coil may be driven.
     ghost driven: { Self → ℕ → Bool };
 
-    // Whether the driver can say that no other coil is driven; one that can't tell is sure.
+    // Whether the driver is sure that no other coil is driven; one that has no way to know is sure.
     ghost sure: { Self → Bool } = { λ _. true };
 
     // What a call of `drive` may do: the driver before it, channel, state asked for, result, the driver after it.

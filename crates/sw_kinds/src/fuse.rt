@@ -9,7 +9,7 @@ use crate::driver::Driver;
 use std::marker::Model;
 use sw_card::CardFault;
 
-/// A driver whose k-th closing, counted from 1, fails once, the relay closing all the same. Every other call passes.
+/// A driver that fails its k-th closing, counted from 1, once; the relay closes all the same. Every other call passes.
 ///
 /// Contracts see the driver behind it, and the closings up to the failing one, that one included.
 #[derive(Drop)]

@@ -2,8 +2,8 @@
 //!
 //! The crate's contract to the layers above: [`Mux`] and [`Matrix`] keep the clauses of a relay card over any
 //! [`Driver`], [`Volt`] those of a meter over any [`Source`]. What a driver may be driving is always among the card's
-//! closed channels, each call fails exactly where the driver or the source does, and a card that is let go leaves its
-//! driver cut. [`SimDriver`], [`SimSource`] and the fuses say exactly what each of their calls does.
+//! closed channels, each call fails exactly where the driver or the source does, and a dropped card leaves its driver
+//! cut. [`SimDriver`], [`SimSource`] and the fuses say exactly what each of their calls does.
 //!
 //! It takes no memory. It promises nothing of a real relay: a driver's account of its coils is the driver's own word,
 //! and that a box drops the card in it is shown by a test.

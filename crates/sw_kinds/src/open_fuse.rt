@@ -9,7 +9,7 @@ use crate::driver::Driver;
 use std::marker::Model;
 use sw_card::CardFault;
 
-/// A driver whose k-th opening, counted from 1, fails once, the relay staying as it was. Every other call passes.
+/// A driver that fails its k-th opening, counted from 1, once; the relay stays as it was. Every other call passes.
 ///
 /// Contracts see the driver behind it, and the openings up to the failing one, that one included.
 #[derive(Drop)]

@@ -12,10 +12,10 @@ use crate::driver::Driver;
 use std::marker::{Model, PhantomData};
 use sw_card::{Board, CardFault, Mask, Relay};
 
-/// Names a card whose channels are all in one exclusion group.
+/// Names a card with all its channels in one exclusion group.
 pub enum Grouped {}
 
-/// Names a card whose channels are in no exclusion group.
+/// Names a card with its channels in no exclusion group.
 pub enum Ungrouped {}
 
 /// A card of 1 to 99 relays, all in one exclusion group.
@@ -87,7 +87,7 @@ impl<D: Driver> Row<D, Ungrouped> {
 }
 
 impl<D: Driver, K> Row<D, K> {
-    /// A card whose supply is cut.
+    /// A card with its supply cut.
     fn at_rest(serial: u32, channels: u8, group: u8, driver: D) -> Self
         requires { (1 ≤ channels) × (channels ≤ most_channels) }
         ensures driver { D.cuts driver result.0 }

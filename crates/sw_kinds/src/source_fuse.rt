@@ -10,7 +10,7 @@ use std::marker::Model;
 use sw_base::Reading;
 use sw_card::CardFault;
 
-/// A source whose k-th reading, counted from 1, fails once, the source staying as it was. Every other call passes.
+/// A source that fails its k-th reading, counted from 1, once; the source stays as it was. Every other call passes.
 ///
 /// Contracts see the source behind it, and the readings up to the failing one, that one included.
 #[derive(Drop)]

@@ -1,8 +1,8 @@
 -- But for want of memory a unit below a path has one meaning.
-use Rattle.std.proofs.Common.{◌≡◌, ◌≢◌, ℕ, List, [], ◌∷◌, refl, sym, ap, subst, ◌∙◌, inl, inr, Result, Ok, Err}
+use Rattle.std.proofs.Common.{◌≡◌, ◌≢◌, ◌⊎◌, ℕ, List, [], ◌∷◌, refl, sym, ap, subst, ◌∙◌, inl, inr, Result, Ok, Err}
 use Rattle.std.specs.Result.{result_map_both}
 use Rattle.sw_base.specs.declared.error.ScpiError.{ScpiError}
-use Rattle.sw_base.specs.declared.error.ScpiError.TheVariants.{OutOfMemory}
+use Rattle.sw_base.specs.declared.error.ScpiError.TheVariants.{OutOfMemory, ProgramSyntaxError}
 use Rattle.sw_channel.proofs.Judging.{one_reading, one_position_reading}
 use Rattle.sw_channel.specs.Reading.{Reads, ReadsPositions}
 use Rattle.sw_lex.specs.declared.command.Command.{Command}
@@ -11,13 +11,19 @@ use Rattle.sw_lex.specs.declared.command.MacroCommand.TheVariants as macros
 use Rattle.sw_lex.specs.declared.command.Setting.TheVariants as settings
 use Rattle.sw_lex.specs.declared.table.Key.{Key}
 use Rattle.sw_lex.specs.declared.table.Key.TheVariants as keys
+use Rattle.sw_lex.specs.declared.table.Switch.{Switch}
+use Rattle.sw_code.specs.Range.{Program}
+use Rattle.sw_code.specs.Reading.{code_in}
+use Rattle.sw_code.specs.declared.fault.ListError.{ListError}
+use Rattle.sw_verify.specs.Runnable.{IsRunnable}
+use Rattle.sw_lex.specs.Programs.{fault_error, ReadsListing, ReadsProgram}
 use Rattle.sw_lex.specs.Unit.{Datum, number, character, string, block, expression, UnitSeen}
 use Rattle.sw_lex.specs.Table.{HeaderEntry, entries}
 use Rattle.sw_lex.specs.Found.{IsIn, spellings, IsFound}
 use Rattle.sw_lex.specs.Commands.{layer_numbered}
-use Rattle.sw_lex.specs.Values.{on_ok, IsQuantity, ReadsQuantity, ReadsString, ReadsBlock, whole_of, continuous_of, macros_of, time_of, source_meant}
-use Rattle.sw_lex.specs.Meaning.{Nodes, asked, path_after, WithNone, WithList, OfList, WithString, OfString, Defines, OfMacro, WithNumber, OfNumber, OfWord}
-use Rattle.sw_lex.specs.Meaning.{OfSwitch, DecodesCommand, Resolves}
+use Rattle.sw_lex.specs.Values.{on_ok, IsQuantity, ReadsQuantity, ReadsString, ReadsBlock, whole_of, switched_by, macros_of, time_of, source_meant}
+use Rattle.sw_lex.specs.Meaning.{Nodes, asked, path_after, WithNone, WithList, WithBlock, OfList, WithString, OfString, Defines, OfMacro, WithNumber, OfNumber, OfWord}
+use Rattle.sw_lex.specs.Meaning.{OfSwitch, OfCheck, DecodesCommand, Resolves}
 use Rattle.sw_base.specs.Text.{is_blank, Spans}
 use Rattle.sw_base.specs.Number.{Written}
 use Rattle.sw_base.proofs.Runs.{one_span}
@@ -95,15 +101,15 @@ one_of_word meaning (block t ∷ []) r s a b = a ∙ sym b
 one_of_word meaning (expression t ∷ []) r s a b = a ∙ sym b
 one_of_word meaning (d ∷ c ∷ ds) r s a b = a ∙ sym b
 
-one_of_switch : (ds : List Datum) (r s : Result Command ScpiError) → OfSwitch ds r → OfSwitch ds s → r ≡ s
-one_of_switch [] r s a b = a ∙ sym b
-one_of_switch (number t ∷ []) r s a b =
-    a.2 ∙ ap (λ (q : Result (Written × List ℕ) ScpiError). on_ok q (λ x. continuous_of x.0 x.1)) (one_quantity t a.0 b.0 a.1 b.1) ∙ sym b.2
-one_of_switch (character t ∷ []) r s a b = a ∙ sym b
-one_of_switch (string t ∷ []) r s a b = a ∙ sym b
-one_of_switch (block t ∷ []) r s a b = a ∙ sym b
-one_of_switch (expression t ∷ []) r s a b = a ∙ sym b
-one_of_switch (d ∷ c ∷ ds) r s a b = a ∙ sym b
+one_of_switch : (ask : Switch) (ds : List Datum) (r s : Result Command ScpiError) → OfSwitch ask ds r → OfSwitch ask ds s → r ≡ s
+one_of_switch ask [] r s a b = a ∙ sym b
+one_of_switch ask (number t ∷ []) r s a b =
+    a.2 ∙ ap (λ (q : Result (Written × List ℕ) ScpiError). on_ok q (λ x. switched_by ask x.0 x.1)) (one_quantity t a.0 b.0 a.1 b.1) ∙ sym b.2
+one_of_switch ask (character t ∷ []) r s a b = a ∙ sym b
+one_of_switch ask (string t ∷ []) r s a b = a ∙ sym b
+one_of_switch ask (block t ∷ []) r s a b = a ∙ sym b
+one_of_switch ask (expression t ∷ []) r s a b = a ∙ sym b
+one_of_switch ask (d ∷ c ∷ ds) r s a b = a ∙ sym b
 
 one_reads_string : (text : List ℕ) (r s : Result (List ℕ) ScpiError) → ReadsString text r → ReadsString text s → r ≢ Err OutOfMemory → s ≢ Err OutOfMemory
     → r ≡ s
@@ -176,6 +182,99 @@ one_of_macro (string t ∷ block u ∷ []) r s a b n m =
     one_defines u a.0 r s a.2 (subst (λ (x : Result (List ℕ) ScpiError). Defines u x s) (sym e) b.2) n m
 one_of_macro (d ∷ c ∷ e ∷ ds) r s a b n m = a ∙ sym b
 
+-- ---- a program
+
+same_code : (bytes : List ℕ) (c d : Program) → code_in bytes ≡ Ok c → code_in bytes ≡ Ok d → c ≡ d
+same_code bytes c d p q = let z : (let o : Result Program ListError = Ok c in o) ≡ Ok d = sym p ∙ q in cc
+
+same_fault : (bytes : List ℕ) (c d : ListError) → code_in bytes ≡ Err c → code_in bytes ≡ Err d → c ≡ d
+same_fault bytes c d p q = let z : (let o : Result Program ListError = Err c in o) ≡ Err d = sym p ∙ q in cc
+
+not_faulty : (bytes : List ℕ) (c : Program) (d : ListError) → code_in bytes ≡ Ok c → code_in bytes ≡ Err d → ⊥
+not_faulty bytes c d p q = let z : (let o : Result Program ListError = Ok c in o) ≡ Err d = sym p ∙ q in cc
+
+-- why the bytes list no program
+abbrev Fault : List ℕ → ScpiError → Type 0
+Fault bytes e = (fault : ListError) × (code_in bytes ≡ Err fault) × (e ≡ fault_error fault.kind)
+
+abbrev Stuck : List ℕ → ScpiError → Type 0
+Stuck bytes e = (code : Program) × (code_in bytes ≡ Ok code) × (IsRunnable code → ⊥) × (e ≡ ProgramSyntaxError)
+
+same_why : (bytes : List ℕ) (e f : ScpiError) → Fault bytes e ⊎ Stuck bytes e → Fault bytes f ⊎ Stuck bytes f → e ≡ f
+same_why bytes e f p q =
+    elim p [
+      | inl a ↦ elim q [
+        | inl b ↦ a.2 ∙ ap (λ (x : ListError). fault_error x.kind) (same_fault bytes a.0 b.0 a.1 b.1) ∙ sym b.2
+        | inr b ↦ absurd (not_faulty bytes b.0 a.0 b.1 a.1)
+      ]
+      | inr a ↦ elim q [ inl b ↦ absurd (not_faulty bytes a.0 b.0 a.1 b.1) | inr b ↦ a.3 ∙ sym b.3 ]
+    ]
+
+no_program : (bytes : List ℕ) (c : Program) (e : ScpiError) → code_in bytes ≡ Ok c → IsRunnable c → Fault bytes e ⊎ Stuck bytes e → ⊥
+no_program bytes c e p r q =
+    elim q [ inl b ↦ not_faulty bytes c b.0 p b.1 | inr b ↦ b.2 (subst (λ (x : Program). IsRunnable x) (same_code bytes c b.0 p b.1) r) ]
+
+one_listing : (bytes : List ℕ) (r s : Result Program ScpiError) → ReadsListing bytes r → ReadsListing bytes s → r ≢ Err OutOfMemory → s ≢ Err OutOfMemory
+    → r ≡ s
+one_listing bytes (Ok x) (Ok y) p q n m = ap (λ (c : Program). Ok c) (same_code bytes x y p.0 q.0)
+one_listing bytes (Ok x) (Err e) p q n m =
+    elim q [ inl b ↦ absurd (m (ap (λ (g : ScpiError). Err g) b)) | inr b ↦ absurd (no_program bytes x e p.0 p.1 b) ]
+one_listing bytes (Err e) (Ok y) p q n m =
+    elim p [ inl a ↦ absurd (n (ap (λ (g : ScpiError). Err g) a)) | inr a ↦ absurd (no_program bytes y e q.0 q.1 a) ]
+one_listing bytes (Err e) (Err f) p q n m =
+    elim p [
+      | inl a ↦ absurd (n (ap (λ (g : ScpiError). Err g) a))
+      | inr a ↦ elim q [
+        | inl b ↦ absurd (m (ap (λ (g : ScpiError). Err g) b))
+        | inr b ↦ ap (λ (g : ScpiError). Err g) (same_why bytes e f a b)
+      ]
+    ]
+
+one_reads_program : (text : List ℕ) (r s : Result Program ScpiError) → ReadsProgram text r → ReadsProgram text s → r ≢ Err OutOfMemory
+    → s ≢ Err OutOfMemory → r ≡ s
+one_reads_program text r s p q n m =
+    elim p [
+      | inl a ↦ elim q [
+        | inl b ↦
+            let e : b.0 ≡ a.0 = (one_block text b.0 a.0 [] [] b.1 a.1).0 in
+            one_listing a.0 r s a.2 (subst (λ (x : List ℕ). ReadsListing x s) e b.2) n m
+        | inr b ↦ absurd (b.0 a.0 a.1)
+      ]
+      | inr a ↦ elim q [ inl b ↦ absurd (a.0 b.0 b.1) | inr b ↦ a.1 ∙ sym b.1 ]
+    ]
+
+-- a block of this kind is read in one way
+abbrev ReadsBlockOnce : {V : Type 0} → (List ℕ → Result V ScpiError → Type 0) → Type 0
+ReadsBlockOnce {V} ReadsIt = (t : List ℕ) (r s : Result V ScpiError) → ReadsIt t r → ReadsIt t s → r ≢ Err OutOfMemory → s ≢ Err OutOfMemory → r ≡ s
+
+module _ {V : Type 0} (ReadsIt : List ℕ → Result V ScpiError → Type 0) (unique : ReadsBlockOnce ReadsIt) where
+  one_with_block : (ds : List Datum) (r s : Result V ScpiError) → WithBlock ReadsIt ds r → WithBlock ReadsIt ds s → r ≢ Err OutOfMemory
+      → s ≢ Err OutOfMemory → r ≡ s
+  one_with_block [] r s a b n m = a ∙ sym b
+  one_with_block (number t ∷ []) r s a b n m = a ∙ sym b
+  one_with_block (character t ∷ []) r s a b n m = a ∙ sym b
+  one_with_block (string t ∷ []) r s a b n m = a ∙ sym b
+  one_with_block (block t ∷ []) r s a b n m = unique t r s a b n m
+  one_with_block (expression t ∷ []) r s a b n m = a ∙ sym b
+  one_with_block (d ∷ c ∷ ds) r s a b n m = a ∙ sym b
+
+  one_of_block : (make : V → Command) (ds : List Datum) (r s : Result Command ScpiError) (x y : Result V ScpiError) → WithBlock ReadsIt ds x
+      → r ≡ result_map_both make (λ e. e) x → WithBlock ReadsIt ds y → s ≡ result_map_both make (λ e. e) y
+      → r ≢ Err OutOfMemory → s ≢ Err OutOfMemory → r ≡ s
+  one_of_block make ds r s x y p e q f n m =
+      let g : Result V ScpiError → Result Command ScpiError = λ z. result_map_both make (λ e. e) z in
+      e ∙ ap g (one_with_block ds x y p q (λ k. n (e ∙ ap g k)) (λ k. m (f ∙ ap g k))) ∙ sym f
+
+one_of_check : (ds : List Datum) (r s : Result Command ScpiError) → OfCheck ds r → OfCheck ds s → r ≢ Err OutOfMemory → s ≢ Err OutOfMemory → r ≡ s
+one_of_check [] r s a b n m = a ∙ sym b
+one_of_check (d ∷ ds) r s a b n m =
+    one_of_block ReadsBlock one_reads_block (λ text. commands.ListingCheck text) (d ∷ ds) r s a.0 b.0 a.1 a.2 b.1 b.2 n m
+
+one_program : (k : ℕ) (ds : List Datum) (r s : Result Command ScpiError) → DecodesCommand keys.Program k ds r → DecodesCommand keys.Program k ds s
+    → r ≢ Err OutOfMemory → s ≢ Err OutOfMemory → r ≡ s
+one_program k ds r s a b n m =
+    one_of_block ReadsProgram one_reads_program (λ code. commands.Set (settings.Program code)) ds r s a.0 b.0 a.1 a.2 b.1 b.2 n m
+
 one_decoded : (key : Key) (k : ℕ) (ds : List Datum) (r s : Result Command ScpiError) → DecodesCommand key k ds r → DecodesCommand key k ds s
     → r ≢ Err OutOfMemory
     → s ≢ Err OutOfMemory → r ≡ s
@@ -188,10 +287,13 @@ one_decoded (keys.Signal family) k ds r s a b n m = one_none (commands.Signal (l
 one_decoded (keys.Macros ask) k ds r s a b n m = one_none (commands.Macros ask) ds r s a b
 one_decoded (keys.Channels ask) k ds r s a b n m = one_of_list Reads one_reading (λ list. commands.Channels ask list) ds r s a b n m
 one_decoded keys.Scan k ds r s a b n m = one_of_list ReadsPositions one_position_reading (λ list. commands.Set (settings.Scan list)) ds r s a b n m
+one_decoded keys.Program k ds r s a b n m = one_program k ds r s a b n m
+one_decoded keys.NoProgram k ds r s a b n m = one_none (commands.Set settings.NoProgram) ds r s a b
+one_decoded keys.ScanCheck k ds r s a b n m = one_of_check ds r s a b n m
 one_decoded (keys.Whole ask) k ds r s a b n m = one_of_number (whole_of ask k) ds r s a b
 one_decoded (keys.Time kind family) k ds r s a b n m = one_of_number (time_of kind (layer_numbered family k)) ds r s a b
 one_decoded (keys.Source family) k ds r s a b n m = one_of_word (source_meant (layer_numbered family k)) ds r s a b
-one_decoded keys.Continuous k ds r s a b n m = one_of_switch ds r s a b
+one_decoded (keys.Switch ask) k ds r s a b n m = one_of_switch ask ds r s a b
 one_decoded keys.EnableMacros k ds r s a b n m = one_of_number macros_of ds r s a b
 one_decoded keys.DefineMacro k ds r s a b n m = one_of_macro ds r s a b n m
 one_decoded keys.MacroQuery k ds r s a b n m = one_of_string (λ label. commands.Macro (macros.BodyQuery label)) ds r s a b n m

@@ -12,7 +12,7 @@ use Rattle.sw_lex.specs.declared.elements.ElementKind.TheVariants as kinds
 abbrev pub is_numeric : ℕ → Bool
 is_numeric b = is_digit b || (b == 43 || (b == 45 || b == 46))
 
--- a mark that a string stands in: " or '
+-- a mark that encloses a string: " or '
 abbrev pub is_quote : ℕ → Bool
 is_quote b = b == 34 || b == 39
 
@@ -20,7 +20,7 @@ is_quote b = b == 34 || b == 39
 abbrev pub is_run : ℕ → Bool
 is_run b = nat_lt 32 b && (nat_lt b 127 && (not (b == 44) && not (b == 59)))
 
--- what stands between the parentheses of an expression: neither `)`, nor a line feed, nor a byte above 126
+-- a byte between the parentheses of an expression: neither `)`, nor a line feed, nor a byte above 126
 abbrev pub is_inner : ℕ → Bool
 is_inner b = not (b == 41) && (not (b == 10) && nat_lt b 127)
 

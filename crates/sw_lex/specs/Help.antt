@@ -1,4 +1,4 @@
--- What SYSTem:HELP:HEADers? tells: the table of headers, a line for each header (SCPI-1999, volume 2, 21,
+-- The answer to SYSTem:HELP:HEADers?: the table of headers, a line for each header (SCPI-1999, volume 2, 21,
 -- SYSTem:HELP:HEADers?).
 use Rattle.std.specs.Prelude.{ℕ, Bool, false, ◌==◌, ◌||◌, List, [], ◌∷◌, ◌++◌, codes, if◌then◌else◌}
 use Rattle.std.specs.List.{join_with_byte}

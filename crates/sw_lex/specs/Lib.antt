@@ -14,3 +14,4 @@ pub mod Parts
 pub mod Commands
 pub mod Values
 pub mod Meaning
+pub mod Programs

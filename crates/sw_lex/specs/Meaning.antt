@@ -11,16 +11,20 @@ use Rattle.sw_channel.specs.Reading.{Reads, ReadsPositions}
 use Rattle.sw_lex.specs.declared.command.Command.{Command}
 use Rattle.sw_lex.specs.declared.command.Command.TheVariants as commands
 use Rattle.sw_lex.specs.declared.command.MacroCommand.TheVariants as macros
+use Rattle.sw_lex.specs.declared.command.PlainQuery.TheVariants as queries
 use Rattle.sw_lex.specs.declared.command.Setting.TheVariants as settings
 use Rattle.sw_lex.specs.declared.table.Key.{Key}
 use Rattle.sw_lex.specs.declared.table.Key.TheVariants as keys
+use Rattle.sw_lex.specs.declared.table.Switch.{Switch}
 use Rattle.sw_lex.specs.declared.path.Path.{Path}
 use Rattle.sw_lex.specs.Unit.{Heading, common, path, Datum, number, character, string, block, expression, UnitSeen}
 use Rattle.sw_lex.specs.Commands.{layer_numbered}
-use Rattle.sw_lex.specs.Values.{on_ok, ReadsQuantity, ReadsString, ReadsBlock, whole_of, continuous_of, macros_of}
+use Rattle.sw_lex.specs.Values.{on_ok, ReadsQuantity, ReadsString, ReadsBlock, whole_of, switched_by, macros_of}
 use Rattle.sw_lex.specs.Values.{time_of, source_meant, switch_meant, unnumbered}
 use Rattle.sw_lex.specs.Split.{nodes_of}
 use Rattle.sw_lex.specs.Packed.{word_of}
+use Rattle.sw_code.specs.Range.{Program}
+use Rattle.sw_lex.specs.Programs.{ReadsProgram}
 use Rattle.sw_lex.specs.Found.{IsFound}
 use Rattle.sw_lex.specs.Table.{entries}
 
@@ -71,6 +75,16 @@ WithList ReadsList (block t ∷ []) r = r ≡ Err DataTypeError
 WithList ReadsList (expression t ∷ []) r = ReadsList t r
 WithList ReadsList (d ∷ c ∷ ds) r = r ≡ Err ParameterNotAllowed
 
+-- one block
+abbrev pub WithBlock : {V : Type 0} → (List ℕ → Result V ScpiError → Type 0) → List Datum → Result V ScpiError → Type 0
+WithBlock ReadsIt [] r = r ≡ Err MissingParameter
+WithBlock ReadsIt (number t ∷ []) r = r ≡ Err DataTypeError
+WithBlock ReadsIt (character t ∷ []) r = r ≡ Err DataTypeError
+WithBlock ReadsIt (string t ∷ []) r = r ≡ Err DataTypeError
+WithBlock ReadsIt (block t ∷ []) r = ReadsIt t r
+WithBlock ReadsIt (expression t ∷ []) r = r ≡ Err DataTypeError
+WithBlock ReadsIt (d ∷ c ∷ ds) r = r ≡ Err ParameterNotAllowed
+
 -- the command of one list
 abbrev pub OfList : {V : Type 0} → (List ℕ → Result (List V) ScpiError → Type 0) → (List V → Command) → List Datum
     → Result Command ScpiError → Type 0
@@ -103,15 +117,15 @@ OfWord meaning (expression t ∷ []) r = r ≡ Err DataTypeError
 OfWord meaning (d ∷ c ∷ ds) r = r ≡ Err ParameterNotAllowed
 
 -- the command of one switch: a word or a number
-abbrev pub OfSwitch : List Datum → Result Command ScpiError → Type 0
-OfSwitch [] r = r ≡ Err MissingParameter
-OfSwitch (number t ∷ []) r = (read : Result (Written × List ℕ) ScpiError) × ReadsQuantity t read
-    × (r ≡ on_ok read (λ x. continuous_of x.0 x.1))
-OfSwitch (character t ∷ []) r = r ≡ switch_meant t
-OfSwitch (string t ∷ []) r = r ≡ Err DataTypeError
-OfSwitch (block t ∷ []) r = r ≡ Err DataTypeError
-OfSwitch (expression t ∷ []) r = r ≡ Err DataTypeError
-OfSwitch (d ∷ c ∷ ds) r = r ≡ Err ParameterNotAllowed
+abbrev pub OfSwitch : Switch → List Datum → Result Command ScpiError → Type 0
+OfSwitch ask [] r = r ≡ Err MissingParameter
+OfSwitch ask (number t ∷ []) r = (read : Result (Written × List ℕ) ScpiError) × ReadsQuantity t read
+    × (r ≡ on_ok read (λ x. switched_by ask x.0 x.1))
+OfSwitch ask (character t ∷ []) r = r ≡ switch_meant ask t
+OfSwitch ask (string t ∷ []) r = r ≡ Err DataTypeError
+OfSwitch ask (block t ∷ []) r = r ≡ Err DataTypeError
+OfSwitch ask (expression t ∷ []) r = r ≡ Err DataTypeError
+OfSwitch ask (d ∷ c ∷ ds) r = r ≡ Err ParameterNotAllowed
 
 -- one string: its content, or the first refusal
 abbrev pub WithString : List Datum → Result (List ℕ) ScpiError → Type 0
@@ -148,7 +162,13 @@ OfMacro (string t ∷ expression u ∷ []) r = r ≡ Err DataTypeError
 OfMacro (string t ∷ block u ∷ []) r = (label : Result (List ℕ) ScpiError) × ReadsString t label × Defines u label r
 OfMacro (d ∷ c ∷ b ∷ ds) r = r ≡ Err ParameterNotAllowed
 
--- the command of a header with this number in it and these data, or its first refusal; or want of memory where a list,
+-- DIAGnostic:SCAN:CHECk? alone, or with one block
+abbrev pub OfCheck : List Datum → Result Command ScpiError → Type 0
+OfCheck [] r = r ≡ Ok (commands.Query queries.ScanCheck)
+OfCheck (d ∷ ds) r = (read : Result (List ℕ) ScpiError) × WithBlock ReadsBlock (d ∷ ds) read
+    × (r ≡ result_map_both (λ text. commands.ListingCheck text) (λ e. e) read)
+
+-- the command of a header with this number in it and these data, or its first refusal; or lack of memory where a list,
 -- a string or a block is read
 abbrev pub DecodesCommand : Key → ℕ → List Datum → Result Command ScpiError → Type 0
 DecodesCommand (keys.Plain ask) k ds r = WithNone (commands.Plain ask) ds r
@@ -160,10 +180,15 @@ DecodesCommand (keys.Signal family) k ds r = WithNone (commands.Signal (layer_nu
 DecodesCommand (keys.Macros ask) k ds r = WithNone (commands.Macros ask) ds r
 DecodesCommand (keys.Channels ask) k ds r = OfList Reads (λ list. commands.Channels ask list) ds r
 DecodesCommand keys.Scan k ds r = OfList ReadsPositions (λ list. commands.Set (settings.Scan list)) ds r
+DecodesCommand keys.Program k ds r =
+    (read : Result Program ScpiError) × WithBlock ReadsProgram ds read
+    × (r ≡ result_map_both (λ code. commands.Set (settings.Program code)) (λ e. e) read)
+DecodesCommand keys.NoProgram k ds r = WithNone (commands.Set settings.NoProgram) ds r
+DecodesCommand keys.ScanCheck k ds r = OfCheck ds r
 DecodesCommand (keys.Whole ask) k ds r = OfNumber (whole_of ask k) ds r
 DecodesCommand (keys.Time kind family) k ds r = OfNumber (time_of kind (layer_numbered family k)) ds r
 DecodesCommand (keys.Source family) k ds r = OfWord (source_meant (layer_numbered family k)) ds r
-DecodesCommand keys.Continuous k ds r = OfSwitch ds r
+DecodesCommand (keys.Switch ask) k ds r = OfSwitch ask ds r
 DecodesCommand keys.EnableMacros k ds r = OfNumber macros_of ds r
 DecodesCommand keys.DefineMacro k ds r = OfMacro ds r
 DecodesCommand keys.MacroQuery k ds r = OfString (λ label. commands.Macro (macros.BodyQuery label)) ds r

@@ -28,7 +28,7 @@ packed word = packed_after 1 word
 abbrev pub is_byte : ℕ → Bool
 is_byte b = nat_lt b 256
 
--- the last bytes of a number, at most so many, without the one before them
+-- the last bytes of a number, at most this many, without the one before them
 abbrev pub last_bytes : ℕ → ℕ → List ℕ
 last_bytes zero n = []
 last_bytes (suc k) n = if nat_lt 1 n then last_bytes k (n / 256) ++ (n % 256) ∷ [] else []
@@ -37,7 +37,7 @@ last_bytes (suc k) n = if nat_lt 1 n then last_bytes k (n / 256) ++ (n % 256) �
 abbrev pub word_of : ℕ → List ℕ
 word_of n = map to_ascii_uppercase (last_bytes longest_mnemonic n)
 
--- the capital of a byte that may stand in a mnemonic, 0 of any other
+-- the capital of a byte that a mnemonic may have, 0 of any other
 abbrev pub capital_of : ℕ → ℕ
 capital_of b = if is_word b then to_ascii_uppercase b else 0
 

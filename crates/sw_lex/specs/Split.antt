@@ -5,7 +5,7 @@ abbrev pub led_by : ℕ → List (List ℕ) → List (List ℕ)
 led_by b [] = (b ∷ []) ∷ []
 led_by b (n ∷ ns) = (b ∷ n) ∷ ns
 
--- what stands between the colons of a text
+-- the nodes between the colons of a text
 abbrev pub nodes_of : List ℕ → List (List ℕ)
 nodes_of [] = [] ∷ []
 nodes_of (b ∷ bs) = if b == 58 then [] ∷ nodes_of bs else led_by b (nodes_of bs)

@@ -1,6 +1,6 @@
 -- The table of headers (SCPI-1999, volume 2; IEEE 488.2, 10), each as the standard writes it: mnemonics joined by
--- colons, nodes that may be left out in brackets, and a question mark behind a query. `#` stands for the
--- number of an ARM layer, or none.
+-- colons, nodes that may be left out in brackets, and a question mark behind a query. `#` is the number of an ARM
+-- layer, or none.
 use Rattle.std.specs.Prelude.{ℕ, Bool, false, ◌==◌, ◌||◌, List, [], ◌∷◌, map, codes, if◌then◌else◌}
 use Rattle.sw_base.specs.declared.terms.StatusGroup.TheVariants as groups
 use Rattle.sw_lex.specs.declared.command.Plain.TheVariants as plain
@@ -15,6 +15,7 @@ use Rattle.sw_lex.specs.declared.command.AllMacros.TheVariants as all_macros
 use Rattle.sw_lex.specs.declared.table.Key.{Key}
 use Rattle.sw_lex.specs.declared.table.Key.TheVariants as keys
 use Rattle.sw_lex.specs.declared.table.Whole.TheVariants as wholes
+use Rattle.sw_lex.specs.declared.table.Switch.TheVariants as switches
 use Rattle.sw_lex.specs.declared.table.Family.TheVariants as families
 
 -- each header, and what it asks for
@@ -52,7 +53,7 @@ table =
     ∷ (codes "ARM[:LAYer#]:TIMer?", keys.LayerQuery layer_queries.Timer families.Arm)
     ∷ (codes "ARM[:LAYer#]:SIGNal", keys.Signal families.Arm)
     ∷ (codes "INITiate[:IMMediate]", keys.Plain plain.Initiate)
-    ∷ (codes "INITiate:CONTinuous", keys.Continuous)
+    ∷ (codes "INITiate:CONTinuous", keys.Switch switches.Continuous)
     ∷ (codes "INITiate:CONTinuous?", keys.Query queries.InitiateContinuous)
     ∷ (codes "TRIGger:COUNt", keys.Whole (wholes.Count families.Trigger))
     ∷ (codes "TRIGger:COUNt?", keys.LayerQuery layer_queries.Count families.Trigger)
@@ -78,6 +79,11 @@ table =
     ∷ (codes "ROUTe:SCAN?", keys.Query queries.Scan)
     ∷ (codes "ROUTe:SCAN:METer", keys.Whole wholes.ScanMeter)
     ∷ (codes "ROUTe:SCAN:METer?", keys.Query queries.ScanMeter)
+    ∷ (codes "ROUTe:SCAN:PROGram[:DEFine]", keys.Program)
+    ∷ (codes "ROUTe:SCAN:PROGram[:DEFine]?", keys.Query queries.Program)
+    ∷ (codes "ROUTe:SCAN:PROGram:STATe", keys.Switch switches.Programmed)
+    ∷ (codes "ROUTe:SCAN:PROGram:STATe?", keys.Query queries.Programmed)
+    ∷ (codes "ROUTe:SCAN:PROGram:DELete", keys.NoProgram)
     ∷ (codes "STATus:OPERation[:EVENt]?", keys.ReadOut (reads.GroupEvent groups.Operation))
     ∷ (codes "STATus:OPERation:CONDition?", keys.GroupQuery group_queries.Condition groups.Operation)
     ∷ (codes "STATus:OPERation:ENABle", keys.Whole (wholes.Enable groups.Operation))
@@ -104,7 +110,7 @@ table =
     ∷ (codes "SYSTem:CTYPe:GROups?", keys.Whole (wholes.Slot slot_queries.Groups))
     ∷ (codes "SYSTem:CTYPe:STATe?", keys.Whole (wholes.Slot slot_queries.State))
     ∷ (codes "DIAGnostic:SCAN:BOUNd?", keys.Query queries.Bound)
-    ∷ (codes "DIAGnostic:SCAN:CHECk?", keys.Query queries.ScanCheck)
+    ∷ (codes "DIAGnostic:SCAN:CHECk?", keys.ScanCheck)
     ∷ (codes "DIAGnostic:CLOSe:CHECk?", keys.Channels lists.CloseCheck)
     ∷ (codes "FETCh?", keys.Plain plain.Fetch)
     ∷ (codes "READ?", keys.Plain plain.Read)
@@ -112,13 +118,13 @@ table =
 
 -- ---- what is written there
 
--- a node, with its mnemonic: it has to stand there, it may be left out, or it may be left out and have a number
+-- a node, with its mnemonic: the header must have it, may leave it out, or may leave it out or give it a number
 pub data Node : Type 0 where
   must : List ℕ → Node
   may : List ℕ → Node
   numbered : List ℕ → Node
 
--- a header's text, read from its end: the mnemonic at its front so far, as which node it stands, and the nodes after it
+-- a header's text, read from its end: the mnemonic at its front so far, the node that it makes, and the nodes after it
 pub record Scanned : Type 0 where
   pub word : List ℕ
   pub stands : List ℕ → Node

@@ -68,7 +68,7 @@ written_of u = u.text.now
 abbrev pub is_gap : ℕ → Bool
 is_gap b = is_blank b || b == 59
 
--- the error for what stands at the front: a line feed or a byte above 126 is an invalid character first of all
+-- the error for the bytes at the front: a line feed or a byte above 126 is an invalid character first of all
 abbrev pub fault_at : ScpiError → List ℕ → ScpiError
 fault_at e [] = e
 fault_at e (b ∷ bytes) = if b == 10 || nat_lt 126 b then InvalidCharacter else e
@@ -109,7 +109,7 @@ abbrev pub heading_text : Heading → List ℕ
 heading_text (common text) = text
 heading_text (path leading text) = colon leading ++ text
 
--- a header goes as far as it can
+-- a header is as long as it can be
 abbrev pub IsFar : Heading → List ℕ → Type 0
 IsFar (common text) after = StartsOff is_letter after
 IsFar (path leading text) after = StartsOff is_word after × StartsOff (λ b. b == 58) after
@@ -238,8 +238,8 @@ IsLeft tail [] left = left ≡ tail
 IsLeft tail (d ∷ ds) left = (gap : List ℕ) × (more : List ℕ) × Spans is_blank tail gap more
     × AreJoinedElements more (d ∷ ds) left
 
--- the first unit of a text as it is written, from its header's first byte to the last byte of its last part; what
--- stands before it, and what follows it
+-- the first unit of a text as it is written, from its header's first byte to the last byte of its last part; the bytes
+-- before it, and those after it
 pub record IsWritten (text before : List ℕ) (unit : UnitSeen) (written left : List ℕ) : Type 0 where
   pub start : List ℕ
   pub after : List ℕ
@@ -321,7 +321,7 @@ pub record IsUnseparated (text : List ℕ) (e : ScpiError) : Type 0 where
   pub off : StartsOff (λ b. b == 44) more
   pub error : e ≡ fault_at InvalidSeparator more
 
--- the refusal at a place where an element should stand, with n before it
+-- the refusal at a place where an element should be, with n before it
 abbrev pub IsStuck : ℕ → List ℕ → ScpiError → Type 0
 IsStuck n here e = BeginsNone here e
     ⊎ (IsSeventeenth n here e ⊎ ((n < most_elements) × (BreaksIn here e ⊎ IsUnseparated here e)))
@@ -342,7 +342,7 @@ pub record IsTailRefused (tail : List ℕ) (e : ScpiError) : Type 0 where
   pub on : HasNoEnd more
   pub why : ((gap ≡ []) × (e ≡ fault_at InvalidSeparator more)) ⊎ ((0 < length gap) × IsDataRefused more e)
 
--- the refusal of what follows a header that stands
+-- the refusal of what follows a proper header
 pub record IsPartRefused (start : List ℕ) (e : ScpiError) : Type 0 where
   pub heading : Heading
   pub query : Bool

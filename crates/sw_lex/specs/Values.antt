@@ -22,6 +22,8 @@ use Rattle.sw_lex.specs.declared.command.MacroCommand.TheVariants as macros
 use Rattle.sw_lex.specs.declared.command.Setting.TheVariants as settings
 use Rattle.sw_lex.specs.declared.command.Time.{Time}
 use Rattle.sw_lex.specs.declared.table.Whole.{Whole}
+use Rattle.sw_lex.specs.declared.table.Switch.{Switch}
+use Rattle.sw_lex.specs.declared.table.Switch.TheVariants as switches
 use Rattle.sw_lex.specs.Elements.{IsString, IsBlock}
 use Rattle.sw_lex.specs.Apart.{same_word}
 use Rattle.sw_lex.specs.Words.{short_of, long_of}
@@ -67,9 +69,14 @@ whole_of ask number n (b ∷ suffix) = Err SuffixNotAllowed
 abbrev pub not_zero : ℤ → Bool
 not_zero z = nat_lt 0 (unsigned_abs z)
 
-abbrev pub continuous_of : Written → List ℕ → Result Command ScpiError
-continuous_of n [] = Ok (commands.Continuous (not_zero (rounded n 0)))
-continuous_of n (b ∷ suffix) = Err SuffixNotAllowed
+-- the command that sets a switch
+abbrev pub of_switch : Switch → Bool → Command
+of_switch switches.Continuous on = commands.Continuous on
+of_switch switches.Programmed on = commands.Set (settings.Programmed on)
+
+abbrev pub switched_by : Switch → Written → List ℕ → Result Command ScpiError
+switched_by ask n [] = Ok (of_switch ask (not_zero (rounded n 0)))
+switched_by ask n (b ∷ suffix) = Err SuffixNotAllowed
 
 abbrev pub macros_of : Written → List ℕ → Result Command ScpiError
 macros_of n [] = result_map_both (λ z. commands.Macro (macros.Enable (not_zero z))) (λ e. e)
@@ -111,7 +118,7 @@ time_of kind layer n suffix = time_in kind layer n (time_unit_of (map to_ascii_u
 
 -- ---- strings and blocks
 
--- the content of the string that the text is, or want of memory for it; or the text is no string
+-- the content of the string that the text is, or lack of memory for it; or the text is no string
 abbrev pub ReadsString : List ℕ → Result (List ℕ) ScpiError → Type 0
 ReadsString text (Ok content) = IsString text content []
 ReadsString text (Err e) =
@@ -146,17 +153,18 @@ source_named layer (Some source) switch = Ok (commands.Set (settings.Source laye
 source_named layer None (Some on) = Err IllegalParameterValue
 source_named layer None None = Err InvalidCharacterData
 
-abbrev pub switch_named : Option Bool → Option Source → Result Command ScpiError
-switch_named (Some on) source = Ok (commands.Continuous on)
-switch_named None (Some source) = Err IllegalParameterValue
-switch_named None None = Err InvalidCharacterData
+abbrev pub switch_named : Switch → Option Bool → Option Source → Result Command ScpiError
+switch_named ask (Some on) source = Ok (of_switch ask on)
+switch_named ask None (Some source) = Err IllegalParameterValue
+switch_named ask None None = Err InvalidCharacterData
 
 abbrev pub source_meant : LayerName → List ℕ → Result Command ScpiError
 source_meant layer text = source_named layer (source_of (map to_ascii_uppercase text))
     (switch_of (map to_ascii_uppercase text))
 
-abbrev pub switch_meant : List ℕ → Result Command ScpiError
-switch_meant text = switch_named (switch_of (map to_ascii_uppercase text)) (source_of (map to_ascii_uppercase text))
+abbrev pub switch_meant : Switch → List ℕ → Result Command ScpiError
+switch_meant ask text =
+    switch_named ask (switch_of (map to_ascii_uppercase text)) (source_of (map to_ascii_uppercase text))
 
 -- ---- a trigger layer's number in a header
 

@@ -3,7 +3,7 @@
 use Rattle.std.specs.Prelude.{ℕ, List, [], ◌∷◌, map, if◌then◌else◌}
 use Rattle.std.specs.Char.{is_ascii_lowercase, to_ascii_uppercase}
 
--- what stands before the first small letter
+-- the bytes before the first small letter
 abbrev pub short_of : List ℕ → List ℕ
 short_of [] = []
 short_of (b ∷ bs) = if is_ascii_lowercase b then [] else to_ascii_uppercase b ∷ short_of bs

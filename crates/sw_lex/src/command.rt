@@ -1,4 +1,4 @@
-//! The commands, by families: what is asked for alike is one variant of `Command`.
+//! The commands, by families: the commands of a family are one variant of `Command`.
 
 ghost use Rattle.std.specs.Prelude.{◌≡◌, IfOk};
 
@@ -7,6 +7,7 @@ use std::fmt::Debug;
 use std::marker::Model;
 use sw_base::{Chan, LayerName, Sequence, Source, StatusGroup};
 use sw_channel::Position;
+use sw_verify::ScanProgram;
 
 /// What a unit asks for, with its data read (SCPI-1999; IEEE 488.2, 10).
 ///
@@ -23,7 +24,7 @@ pub enum Command {
     GroupQuery(GroupQuery, StatusGroup),
     /// A query of a slot, 1 to `SLOTS`.
     SlotQuery(SlotQuery, u8),
-    /// A query that takes what it tells out of the status.
+    /// A query that takes its answer out of the status.
     ReadOut(StatusRead),
     /// `ARM[:LAYer]:SIGNal`, `TRIGger:SIGNal`
     Signal(LayerName),
@@ -31,6 +32,8 @@ pub enum Command {
     Continuous(bool),
     /// A command with these channels, in this order.
     Channels(Channels, Sequence<Chan>),
+    /// `DIAGnostic:SCAN:CHECk?` with a block: the bytes of a listing.
+    ListingCheck(Sequence<u8>),
     /// A setting of scans.
     Set(Setting),
     /// A setting of the status.
@@ -39,8 +42,8 @@ pub enum Command {
     Macros(AllMacros),
     /// A command of one macro, or of whether macros are on.
     Macro(MacroCommand),
-    /// The readings of the scan with this number, where it has made so many: what `READ?` asks for once it has begun
-    /// that scan. No header is it.
+    /// The readings of the scan with this number, where it has made exactly this count of them: `READ?` asks for them
+    /// after it has begun that scan. No header names it.
     ScanReadings(u64, u64),
 }
 
@@ -96,6 +99,10 @@ pub enum PlainQuery {
     Scan,
     /// `ROUTe:SCAN:METer?`
     ScanMeter,
+    /// `ROUTe:SCAN:PROGram[:DEFine]?`
+    Program,
+    /// `ROUTe:SCAN:PROGram:STATe?`
+    Programmed,
     /// `SYSTem:ERRor:COUNt?`
     ErrorCount,
     /// `SYSTem:HELP:HEADers?`
@@ -108,7 +115,7 @@ pub enum PlainQuery {
     ActualPoints,
     /// `DIAGnostic:SCAN:BOUNd?`
     Bound,
-    /// `DIAGnostic:SCAN:CHECk?`
+    /// `DIAGnostic:SCAN:CHECk?` alone
     ScanCheck,
 }
 
@@ -149,7 +156,7 @@ pub enum SlotQuery {
     State,
 }
 
-/// The queries that take what they tell out of the status.
+/// The queries that take their answer out of the status.
 #[derive(Clone, Copy, Debug, PartialEq, Eq)]
 pub enum StatusRead {
     /// `*ESR?`
@@ -201,6 +208,43 @@ pub enum Setting {
     ScanMeter(u8),
     /// `TRACe:POINts`: how many readings are kept, 1 to 100,000.
     Points(u32),
+    /// `ROUTe:SCAN:PROGram[:DEFine]`: what INITiate runs in place of what the other settings say.
+    Program(BoxedProgram),
+    /// `ROUTe:SCAN:PROGram:STATe`: whether INITiate runs the program.
+    Programmed(bool),
+    /// `ROUTe:SCAN:PROGram:DELete`
+    NoProgram,
+}
+
+/// A program in a box, so that no other command is as large. Contracts see its code.
+#[derive(Debug, Drop)]
+pub struct BoxedProgram {
+    kept: Box<ScanProgram>,
+}
+
+impl Model for BoxedProgram {
+    ghost use Rattle.sw_code.specs.Range.{Program};
+
+    ghost Value = { Program };
+
+    ghost view = { λ b. b.kept.value };
+}
+
+impl BoxedProgram {
+    /// Puts a program into a box.
+    pub fn new(alloc: Global, program: ScanProgram) -> Result<BoxedProgram, AllocError>
+        ensures { IfOk result (λ b. b ≡ program) }
+    {
+        let kept = Box::new(alloc, program)?;
+        Ok(BoxedProgram { kept })
+    }
+
+    /// The program, out of its box.
+    pub fn into_inner(self) -> ScanProgram
+        ensures { result ≡ self }
+    {
+        Box::into_inner(self.kept)
+    }
 }
 
 /// The settings of the status, each with its bits.

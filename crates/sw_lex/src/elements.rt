@@ -43,7 +43,7 @@ fn kind_of_byte(b: u8) -> Option<ElementKind>
     }
 }
 
-/// What stands before the rest of a text.
+/// The part of a text before its rest.
 pub fn before<'a>(text: &'a [u8], rest: &[u8]) -> &'a [u8]
     requires { (front : List ℕ) × (text.now ≡ front ++ rest.now) }
     ensures { text.now ≡ result.now ++ rest.now }
@@ -84,7 +84,7 @@ pub fn value(digits: &[u8]) -> usize
     n
 }
 
-/// The bytes of a block whose length these digits tell, and what follows them.
+/// The bytes of a block with its length in these digits, and what follows them.
 fn counted(text: &[u8], width: usize) -> Option<(&[u8], &[u8])>
     requires { width ≤ 9 }
     ensures some { IfSome result (λ x. (digits : List ℕ) × AllPass is_digit digits × (length digits ≡ width)
@@ -106,7 +106,7 @@ fn counted(text: &[u8], width: usize) -> Option<(&[u8], &[u8])>
     Some(more.split_at(count))
 }
 
-/// The bytes of the block whose `#` stands before these bytes, and what follows it.
+/// The bytes of the block with its `#` before these bytes, and what follows it.
 fn read_block(more: &[u8]) -> Result<(&[u8], &[u8]), ScpiError>
     ensures ok { IfOk result (λ x. IsBlock (35 ∷ more.now) x.0.now x.1.now) }
     ensures err { IfErr result (λ e. IsBadBlock (35 ∷ more.now) e) }
@@ -142,7 +142,7 @@ pub fn block_bytes(text: &[u8]) -> Option<&[u8]>
     }
 }
 
-/// What follows the expression whose `(` stands before these bytes.
+/// What follows the expression with its `(` before these bytes.
 fn expression_end(more: &[u8]) -> Result<&[u8], ScpiError>
     ensures ok { IfOk result (λ rest. IsExpression (40 ∷ more.now) rest.now) }
     ensures err { IfErr result (λ e. IsUnclosed (40 ∷ more.now) e) }

@@ -223,8 +223,7 @@ pub fn path_groups(letter: u8, query: bool) -> &'static [Group]
     if query { part.queries } else { part.commands }
 }
 
-/// The command that a header is whose words have these numbers, by the rows among which it is looked up, and the number
-/// in it.
+/// The command of the header with words of these numbers, by the rows that it looks among, and the number in it.
 #[inline(always)]
 pub fn find(groups: &[Group], numbers: &[Word]) -> Option<(Key, u8)>
     ensures some { IfSome result (λ x. (query : Bool) (ws : List (List ℕ)) → AreNumbersOf ws numbers.now

@@ -5,7 +5,7 @@ ghost use Rattle.sw_lex.specs.Help.{headers_text};
 
 /// The lines of the table, in its order. `specs/Help.antt` makes them of `specs/Table.antt`, so that a row that is added
 /// there has to be added here, and the length with it.
-static HEADERS: &[u8] = b"#41305\
+static HEADERS: &[u8] = b"#41395\
     *IDN?/qonly/\n\
     *RST/nquery/\n\
     *OPC\n\
@@ -45,6 +45,9 @@ static HEADERS: &[u8] = b"#41305\
     :ROUTe:CHANnel:DELay\n\
     :ROUTe:SCAN\n\
     :ROUTe:SCAN:METer\n\
+    :ROUTe:SCAN:PROGram[:DEFine]\n\
+    :ROUTe:SCAN:PROGram:STATe\n\
+    :ROUTe:SCAN:PROGram:DELete/nquery/\n\
     :STATus:OPERation[:EVENt]?/qonly/\n\
     :STATus:OPERation:CONDition?/qonly/\n\
     :STATus:OPERation:ENABle\n\

@@ -6,9 +6,10 @@
 //! The laws: no text has two readings (`one_reading`), no header is two commands (`one_command`), no unit two meanings
 //! (`one_meaning`), and each spelling of a header is its command (`every_spelling`).
 //!
-//! Whether a command can be carried out is no question here, nor whether a channel exists.
+//! The crate does not ask whether the mainframe can carry a command out, nor whether a channel exists.
 #![tactic(auto)]
 
+mod block;
 mod choice;
 mod command;
 mod common_rows;
@@ -22,6 +23,7 @@ mod owned;
 mod packing;
 mod path;
 mod paths;
+mod programs;
 mod raw_unit;
 mod rows;
 mod runs;
@@ -29,9 +31,11 @@ mod table;
 mod unit;
 mod values;
 
+pub use block::block_of;
 pub use command::{
-    AllMacros, BoxedDefinition, Channels, Command, Definition, GroupQuery, LayerQuery,
-    MacroCommand, Plain, PlainQuery, Setting, SlotQuery, StatusRead, StatusSetting, Time,
+    AllMacros, BoxedDefinition, BoxedProgram, Channels, Command, Definition, GroupQuery,
+    LayerQuery, MacroCommand, Plain, PlainQuery, Setting, SlotQuery, StatusRead, StatusSetting,
+    Time,
 };
 pub use elements::ElementKind;
 pub use headers::one_command;

@@ -10,25 +10,31 @@ ghost use Rattle.sw_channel.specs.Reading.{Reads, ReadsPositions};
 ghost use Rattle.sw_lex.specs.declared.command.Command.{Command as Meant};
 ghost use Rattle.sw_lex.specs.Unit.{UnitSeen, unit_of, heading_of, data_of};
 ghost use Rattle.sw_lex.specs.Meaning.{asked, looked_up, path_after, Nodes, path_of, WithNone, WithList, WithString};
-ghost use Rattle.sw_lex.specs.Meaning.{Defines};
+ghost use Rattle.sw_lex.specs.Meaning.{Defines, WithBlock};
+ghost use Rattle.sw_lex.specs.Programs.{ReadsProgram};
 ghost use Rattle.sw_lex.specs.Meaning.{OfMacro, WithNumber, OfNumber, OfWord, OfSwitch, DecodesCommand, IsRefusal};
-ghost use Rattle.sw_lex.specs.Meaning.{Resolves};
+ghost use Rattle.sw_lex.specs.Meaning.{OfCheck, Resolves};
 ghost use Rattle.sw_lex.specs.Found.{IsIn, spellings};
 ghost use Rattle.sw_lex.specs.Table.{HeaderEntry, entries};
-ghost use Rattle.sw_lex.specs.Values.{on_ok, ReadsQuantity, ReadsString, whole_of, continuous_of, macros_of, time_of};
+ghost use Rattle.sw_lex.specs.Values.{ReadsBlock};
+ghost use Rattle.sw_lex.specs.Values.{on_ok, ReadsQuantity, ReadsString, whole_of, switched_by, macros_of, time_of};
 ghost use Rattle.sw_lex.specs.Values.{source_meant};
 
 use crate::choice::layer_of;
-use crate::command::{BoxedDefinition, Channels, Command, Definition, MacroCommand, Setting, Time};
+use crate::command::{
+    BoxedDefinition, BoxedProgram, Channels, Command, Definition, MacroCommand, PlainQuery,
+    Setting, Time,
+};
 use crate::headers::find_words;
 use crate::owned::{body, content};
 use crate::path::Path;
 use crate::paths::{find_unit, texts, texts_of, unnumbered_all};
+use crate::programs::program;
 use crate::raw_unit::RawUnit;
-use crate::table::{Key, Whole};
+use crate::table::{Key, Switch, Whole};
 use crate::unit::{Element, Header};
 use crate::values::{
-    continuous_of, is_plain, macros_of, plain_of, quantity, source_meant, switch_meant, time_of,
+    is_plain, macros_of, plain_of, quantity, source_meant, switch_meant, switched_by, time_of,
     whole_of,
 };
 use std::alloc::Global;
@@ -157,27 +163,27 @@ fn of_source(layer: LayerName, elements: &[Element<'_>]) -> Result<Command, Scpi
     }
 }
 
-/// `INITiate:CONTinuous` with the number of a text.
-fn of_number(text: &[u8]) -> Result<Command, ScpiError>
+/// A switch's command with the number of a text.
+fn of_number(ask: Switch, text: &[u8]) -> Result<Command, ScpiError>
     ensures { (read : Result (Written × List ℕ) Error) × ReadsQuantity text.now read
-        × (result ≡ on_ok read (λ x. continuous_of x.0 x.1)) }
+        × (result ≡ on_ok read (λ x. switched_by ask x.0 x.1)) }
 {
     match quantity(text) {
         Err(e) => Err(e),
-        Ok((n, suffix)) => continuous_of(&n, suffix),
+        Ok((n, suffix)) => switched_by(ask, &n, suffix),
     }
 }
 
-/// `INITiate:CONTinuous`
+/// A switch: ON, OFF or a number.
 #[inline(never)]
-fn of_switch(elements: &[Element<'_>]) -> Result<Command, ScpiError>
-    ensures { OfSwitch (data_of elements.now) result }
+fn of_switch(ask: Switch, elements: &[Element<'_>]) -> Result<Command, ScpiError>
+    ensures { OfSwitch ask (data_of elements.now) result }
 {
     match elements {
         [] => Err(ScpiError::MissingParameter),
         [switch] => match *switch {
-            Element::Number(text) => of_number(text),
-            Element::Character(text) => switch_meant(text),
+            Element::Number(text) => of_number(ask, text),
+            Element::Character(text) => switch_meant(ask, text),
             _ => Err(ScpiError::DataTypeError),
         },
         _ => Err(ScpiError::ParameterNotAllowed),
@@ -250,6 +256,56 @@ fn of_scan(alloc: Global, elements: &[Element<'_>]) -> Result<Command, ScpiError
     Ok(Command::Set(Setting::Scan(one_position_list(alloc, elements)?)))
 }
 
+/// The program of the one element, which is a block.
+fn one_program(alloc: Global, elements: &[Element<'_>]) -> Result<BoxedProgram, ScpiError>
+    ensures { WithBlock ReadsProgram (data_of elements.now) result }
+{
+    match elements {
+        [] => Err(ScpiError::MissingParameter),
+        [listing] => match *listing {
+            Element::Block(text) => program(alloc, text),
+            _ => Err(ScpiError::DataTypeError),
+        },
+        _ => Err(ScpiError::ParameterNotAllowed),
+    }
+}
+
+/// `ROUTe:SCAN:PROGram[:DEFine]`
+#[inline(never)]
+fn of_program(alloc: Global, elements: &[Element<'_>]) -> Result<Command, ScpiError>
+    ensures { (k : ℕ) → DecodesCommand Key.Program k (data_of elements.now) result }
+{
+    Ok(Command::Set(Setting::Program(one_program(alloc, elements)?)))
+}
+
+/// The bytes of the one element, which is a block.
+fn one_block(alloc: Global, elements: &[Element<'_>]) -> Result<Sequence<u8>, ScpiError>
+    ensures { WithBlock ReadsBlock (data_of elements.now) result }
+{
+    match elements {
+        [] => Err(ScpiError::MissingParameter),
+        [bytes] => match *bytes {
+            Element::Block(text) => body(alloc, text),
+            _ => Err(ScpiError::DataTypeError),
+        },
+        _ => Err(ScpiError::ParameterNotAllowed),
+    }
+}
+
+/// `DIAGnostic:SCAN:CHECk?`, alone or with a listing in a block.
+#[inline(never)]
+fn of_check(alloc: Global, elements: &[Element<'_>]) -> Result<Command, ScpiError>
+    ensures { OfCheck (data_of elements.now) result }
+{
+    if elements.is_empty() {
+        return Ok(Command::Query(PlainQuery::ScanCheck));
+    }
+    match one_block(alloc, elements) {
+        Ok(listing) => Ok(Command::ListingCheck(listing)),
+        Err(e) => Err(e),
+    }
+}
+
 /// `*GMC?`
 #[inline(never)]
 fn of_body_query(alloc: Global, elements: &[Element<'_>]) -> Result<Command, ScpiError>
@@ -288,10 +344,13 @@ fn decode(
         Key::Macros(ask) => plain(Command::Macros(ask), elements),
         Key::Channels(ask) => of_channels(alloc, ask, elements),
         Key::Scan => of_scan(alloc, elements),
+        Key::Program => of_program(alloc, elements),
+        Key::NoProgram => plain(Command::Set(Setting::NoProgram), elements),
+        Key::ScanCheck => of_check(alloc, elements),
         Key::Whole(ask) => of_whole(ask, number, elements),
         Key::Time(time, family) => of_time(time, layer_of(family, number), elements),
         Key::Source(family) => of_source(layer_of(family, number), elements),
-        Key::Continuous => of_switch(elements),
+        Key::Switch(ask) => of_switch(ask, elements),
         Key::EnableMacros => of_macros(elements),
         Key::DefineMacro => of_macro(alloc, elements),
         Key::MacroQuery => of_body_query(alloc, elements),
@@ -341,14 +400,13 @@ pub fn resolve(alloc: Global, unit: &RawUnit<'_>, path: &mut Path) -> Result<Com
     }
 }
 
-/// A law: but for want of memory, a unit below a path has one command or one first refusal, and leaves one path.
+/// A law: but for lack of memory, a unit below a path has one command or one first refusal, and leaves one path.
 pub fn one_meaning()
     ensures { (unit : UnitSeen) (below : Nodes) (r s : Result Meant Error) (a b : Nodes) → Resolves unit below r a
         → Resolves unit below s b → r ≢ Err OutOfMemory → s ≢ Err OutOfMemory → (r ≡ s) × (a ≡ b) }
 {}
 
-/// A law: a unit whose header is a spelling of an entry of the table is what that entry asks for, whichever spelling
-/// it is.
+/// A law: a unit with any spelling of a table's entry as its header is what that entry asks for.
 pub fn every_spelling()
     ensures { (entry : HeaderEntry) (unit : UnitSeen) (below : Nodes) (number : ℕ) (r : Result Meant Error)
         (left : Nodes) → IsIn entry entries → entry.query ≡ unit.query

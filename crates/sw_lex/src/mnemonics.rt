@@ -74,6 +74,18 @@ pub const COUNT: Form = Form {
     long: 0x1_43_4F_55_4E_54,
 };
 
+pub const DEFINE: Form = Form {
+    text: b"DEFine",
+    short: 0x1_44_45_46,
+    long: 0x1_44_45_46_49_4E_45,
+};
+
+pub const DELETE: Form = Form {
+    text: b"DELete",
+    short: 0x1_44_45_4C,
+    long: 0x1_44_45_4C_45_54_45,
+};
+
 pub const DELAY: Form = Form {
     text: b"DELay",
     short: 0x1_44_45_4C,
@@ -186,6 +198,12 @@ pub const PRESET: Form = Form {
     text: b"PRESet",
     short: 0x1_50_52_45_53,
     long: 0x1_50_52_45_53_45_54,
+};
+
+pub const PROGRAM: Form = Form {
+    text: b"PROGram",
+    short: 0x1_50_52_4F_47,
+    long: 0x1_50_52_4F_47_52_41_4D,
 };
 
 pub const PTRANSITION: Form = Form {

@@ -9,7 +9,7 @@ use crate::elements::{block_bytes, closing};
 use std::alloc::{AllocError, Global};
 use sw_base::{ScpiError, Sequence, split_once, strip_prefix};
 
-/// What stands before the closing mark, each doubled mark as one.
+/// The bytes before the closing mark, each doubled mark as one.
 fn undoubled(alloc: Global, text: &[u8], mark: u8) -> Result<Vec<u8>, AllocError>
     ensures { (content : List ℕ) → text.now ≡ doubled mark content ++ mark ∷ [] → IfOk result (λ v. v.items ≡ content) }
 {

@@ -22,7 +22,7 @@ pub struct Form {
     pub long: Word,
 }
 
-/// The capital of each byte that may stand in a mnemonic, 0 for any other.
+/// The capital of each byte that a mnemonic may have, 0 for any other.
 static CAPITALS: [u8; 256] = [
     0, 0, 0, 0, 0, 0, 0, 0, 0, 0, 0, 0, 0, 0, 0, 0, 0, 0, 0, 0, 0, 0, 0, 0, 0, 0, 0, 0, 0, 0, 0, 0,
     0, 0, 0, 0, 0, 0, 0, 0, 0, 0, 0, 0, 0, 0, 0, 0, 48, 49, 50, 51, 52, 53, 54, 55, 56, 57, 0, 0,
@@ -43,7 +43,7 @@ fn capitals() -> &'static [u8; 256]
     &CAPITALS
 }
 
-/// The capital of a byte that may stand in a mnemonic, 0 of any other.
+/// The capital of a byte that a mnemonic may have, 0 of any other.
 #[inline(always)]
 fn capital(byte: u8) -> u8
     ensures { result ≡ capital_of byte }
@@ -77,10 +77,10 @@ pub fn numbers_of(words: &[&[u8]]) -> ArrayVec<Word, 4>
     numbers
 }
 
-/// So many bytes with a one before them are a number of 64 bits.
+/// This many bytes with a one before them are a number of 64 bits.
 const FEW: usize = 7;
 
-/// The number of the first bytes at the front that may stand in a mnemonic, and how many they are, seven at most.
+/// The number of the first bytes at the front that a mnemonic may have, and how many they are, seven at most.
 #[inline(always)]
 fn few_at(text: &[u8]) -> (u64, usize)
     ensures fits { result.1 ≤ length text.now }
@@ -101,7 +101,7 @@ fn few_at(text: &[u8]) -> (u64, usize)
 /// A one and a star as a number.
 const STAR: u64 = 298;
 
-/// So many letters with a star and a one before them are a number of 64 bits.
+/// This many letters with a star and a one before them are a number of 64 bits.
 pub const FEW_LETTERS: usize = 6;
 
 /// The number of a star and the first letters at the front behind it, and how many letters these are, six at most.
@@ -144,7 +144,7 @@ fn long_word_at(text: &[u8]) -> (Word, usize)
     (number, n)
 }
 
-/// The number of the bytes at the front that may stand in a mnemonic, and how many they are.
+/// The number of the bytes at the front that a mnemonic may have, and how many they are.
 pub fn word_at(text: &[u8]) -> (Word, usize)
     ensures fits { result.1 ≤ length text.now }
     ensures pass { AllPass is_word (take result.1 text.now) }

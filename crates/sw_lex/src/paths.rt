@@ -108,7 +108,7 @@ pub fn find_unit(unit: &RawUnit<'_>, path: &mut Path) -> Option<(Key, u8)>
 /// A node of a header that was found, in capitals.
 pub type Node = ArrayVec<u8, MNEMONIC_BYTES>;
 
-/// The last bytes of a number, in capitals: at most so many, and without the one before them.
+/// The last bytes of a number, in capitals: at most `most`, and without the one before them.
 fn text_of(number: Word, most: usize) -> Node
     requires { most ≤ longest_mnemonic }
     ensures { result.items ≡ map to_ascii_uppercase (last_bytes most number) }

@@ -10,7 +10,7 @@ use crate::unit::{Element, Header};
 
 /// One unit of a program message.
 ///
-/// Its parts are slices of the message; its data elements stand in the caller's room.
+/// Its parts are slices of the message; its data elements are in the caller's room.
 #[derive(Clone, Copy)]
 pub struct RawUnit<'a> {
     /// The header.

@@ -11,15 +11,16 @@ use crate::command::{
 };
 use crate::mnemonics::{
     ABORT, ACTUAL, ALL, ARM, BOUND, CARD_TYPE, CHANNEL, CHECK, CLOSE, CONDITION, CONTINUOUS, COUNT,
-    DELAY, DIAGNOSTIC, ENABLE, ERROR, EVENT, FETCH, GROUPS, HEADERS, HELP, IMMEDIATE, INITIATE,
-    LAYER, METER, NEXT, NTRANSITION, OPEN, OPERATION, POINTS, PRESET, PTRANSITION, QUESTIONABLE,
-    READ, ROUTE, SCAN, SIGNAL, SOURCE, STATE, STATUS, SYSTEM, TIMER, TRACE, TRIGGER, VERSION,
+    DEFINE, DELAY, DELETE, DIAGNOSTIC, ENABLE, ERROR, EVENT, FETCH, GROUPS, HEADERS, HELP,
+    IMMEDIATE, INITIATE, LAYER, METER, NEXT, NTRANSITION, OPEN, OPERATION, POINTS, PRESET, PROGRAM,
+    PTRANSITION, QUESTIONABLE, READ, ROUTE, SCAN, SIGNAL, SOURCE, STATE, STATUS, SYSTEM, TIMER,
+    TRACE, TRIGGER, VERSION,
 };
 use crate::packing::Form;
 use crate::rows::HeaderNode::{May, Must, Numbered};
 use crate::rows::Row::{Command, Query};
 use crate::table::Family::{Arm, Trigger};
-use crate::table::{Key, Whole};
+use crate::table::{Key, Switch, Whole};
 use sw_base::StatusGroup::{Operation, Questionable};
 
 /// A node of a header, with its mnemonic.
@@ -67,7 +68,7 @@ pub struct Group {
     pub rows: &'static [Row],
 }
 
-/// The headers whose first words begin with one letter, by their first mnemonics.
+/// The headers whose first words begin with the same letter, by their first mnemonics.
 #[derive(Clone, Copy)]
 pub struct Part {
     pub commands: &'static [Group],
@@ -130,7 +131,7 @@ static PATHS_I: Part = Part {
         first: INITIATE,
         rows: &[
             Command(&[May(IMMEDIATE)], Key::Plain(Plain::Initiate)),
-            Command(&[Must(CONTINUOUS)], Key::Continuous),
+            Command(&[Must(CONTINUOUS)], Key::Switch(Switch::Continuous)),
         ],
     }],
     queries: &[Group {
@@ -198,6 +199,12 @@ static PATHS_R: Part = Part {
             ),
             Command(&[Must(SCAN)], Key::Scan),
             Command(&[Must(SCAN), Must(METER)], Key::Whole(Whole::ScanMeter)),
+            Command(&[Must(SCAN), Must(PROGRAM), May(DEFINE)], Key::Program),
+            Command(
+                &[Must(SCAN), Must(PROGRAM), Must(STATE)],
+                Key::Switch(Switch::Programmed),
+            ),
+            Command(&[Must(SCAN), Must(PROGRAM), Must(DELETE)], Key::NoProgram),
         ],
     }],
     queries: &[
@@ -218,6 +225,14 @@ static PATHS_R: Part = Part {
                 Query(
                     &[Must(SCAN), Must(METER)],
                     Key::Query(PlainQuery::ScanMeter),
+                ),
+                Query(
+                    &[Must(SCAN), Must(PROGRAM), May(DEFINE)],
+                    Key::Query(PlainQuery::Program),
+                ),
+                Query(
+                    &[Must(SCAN), Must(PROGRAM), Must(STATE)],
+                    Key::Query(PlainQuery::Programmed),
                 ),
             ],
         },
@@ -345,10 +360,7 @@ static PATHS_D: Part = Part {
         first: DIAGNOSTIC,
         rows: &[
             Query(&[Must(SCAN), Must(BOUND)], Key::Query(PlainQuery::Bound)),
-            Query(
-                &[Must(SCAN), Must(CHECK)],
-                Key::Query(PlainQuery::ScanCheck),
-            ),
+            Query(&[Must(SCAN), Must(CHECK)], Key::ScanCheck),
             Query(
                 &[Must(CLOSE), Must(CHECK)],
                 Key::Channels(Channels::CloseCheck),

@@ -24,14 +24,14 @@ pub fn gaps(bytes: &[u8]) -> (&[u8], &[u8])
     bytes.split_at(n)
 }
 
-/// Whether the byte may stand between the parentheses of an expression.
+/// Whether an expression may have the byte between its parentheses.
 fn is_inner(b: u8) -> bool
     ensures { result ≡ is_inner b }
 {
     b != b')' && b != b'\n' && b < 127
 }
 
-/// The bytes at the front that may stand in an expression, and what follows them.
+/// The bytes at the front that an expression may have, and what follows them.
 fn inner_run(bytes: &[u8]) -> (&[u8], &[u8])
     ensures { Spans is_inner bytes.now result.0.now result.1.now }
 {
@@ -74,7 +74,7 @@ pub fn end(bytes: &[u8]) -> Option<&[u8]>
     }
 }
 
-/// The error for what stands at the front.
+/// The error for the bytes at the front.
 pub fn fault_at(error: ScpiError, bytes: &[u8]) -> ScpiError
     ensures { result ≡ fault_at error bytes.now }
 {

@@ -16,7 +16,7 @@ pub enum Key {
     LayerQuery(LayerQuery, Family),
     /// A query of a status group that changes nothing.
     GroupQuery(GroupQuery, StatusGroup),
-    /// A query that takes what it tells out of the status.
+    /// A query that takes its answer out of the status.
     ReadOut(StatusRead),
     /// A layer's signal.
     Signal(Family),
@@ -26,14 +26,20 @@ pub enum Key {
     Channels(Channels),
     /// `ROUTe:SCAN`
     Scan,
+    /// `ROUTe:SCAN:PROGram[:DEFine]`
+    Program,
+    /// `ROUTe:SCAN:PROGram:DELete`
+    NoProgram,
+    /// `DIAGnostic:SCAN:CHECk?`
+    ScanCheck,
     /// A command with a whole number.
     Whole(Whole),
     /// A layer's delay, or its timer.
     Time(Time, Family),
     /// A layer's source.
     Source(Family),
-    /// `INITiate:CONTinuous`
-    Continuous,
+    /// A command that switches something on or off.
+    Switch(Switch),
     /// `*EMC`
     EnableMacros,
     /// `*DMC`
@@ -42,6 +48,15 @@ pub enum Key {
     MacroQuery,
     /// `*RMC`
     RemoveMacro,
+}
+
+/// The commands that switch something on or off.
+#[derive(Clone, Copy, Debug, PartialEq, Eq)]
+pub enum Switch {
+    /// `INITiate:CONTinuous`
+    Continuous,
+    /// `ROUTe:SCAN:PROGram:STATe`
+    Programmed,
 }
 
 /// The commands and queries with a whole number.
@@ -58,7 +73,7 @@ pub enum Whole {
     Slot(SlotQuery),
 }
 
-/// The nodes below which trigger layers stand: ARM has several, by the number in the header, and TRIGger is one.
+/// The nodes of trigger layers: ARM has several, by the number in the header, and TRIGger is one.
 #[derive(Clone, Copy, Debug, PartialEq, Eq)]
 pub enum Family {
     Arm,

@@ -40,12 +40,12 @@ pub enum Element<'a> {
 pub enum Header<'a> {
     /// A common header: `*` and letters.
     Common(&'a [u8]),
-    /// Mnemonics joined by colons, and whether a colon stands before them.
+    /// Mnemonics joined by colons, and whether a colon precedes them.
     Path { leading: bool, nodes: &'a [u8] },
 }
 
-/// Room for the words of a header and the data elements of one unit. Who reads one unit after another gives the same
-/// room each time.
+/// Room for the words of a header and the data elements of one unit. A caller that reads one unit after another gives
+/// the same room each time.
 #[derive(Drop)]
 pub struct Elements<'a> {
     words: Words,
@@ -53,7 +53,7 @@ pub struct Elements<'a> {
 }
 
 impl Elements<'_> {
-    /// Room that nothing stands in yet.
+    /// Room with nothing in it yet.
     pub fn new() -> Self {
         Elements {
             words: Words::new(),
@@ -65,7 +65,7 @@ impl Elements<'_> {
 /// Data elements, as many as are counted.
 #[derive(Drop)]
 struct Found<'a> {
-    /// What stood there before the count was set back is left in its place.
+    /// An element from before the count was set back stays in its place.
     found: [Element<'a>; ELEMENTS],
     count: usize,
     ghost whole: { length found ≡ most_elements },
@@ -254,8 +254,8 @@ fn read_tail<'a>(text: &'a [u8], found: &mut Found<'a>) -> Result<(&'a [u8], &'a
     }
 }
 
-/// The next unit of a message, and what follows it; none where nothing but white space and empty units is left
-/// (IEEE 488.2, 7.3). Its data elements are put in this room, whatever stood there.
+/// The next unit of a message, and what follows it; none where nothing but white space and empty units is left (IEEE
+/// 488.2, 7.3). It puts its data elements in this room, over any from before.
 pub fn next_unit<'u, 'a: 'u>(
     text: &'a [u8],
     room: &'u mut Elements<'a>,

@@ -6,7 +6,7 @@ ghost use Rattle.std.specs.Result.{result_map_both};
 ghost use Rattle.sw_base.specs.Text.{is_blank, is_digit, is_letter, AllPass, Spans};
 ghost use Rattle.sw_base.specs.Number.{Written, rounded};
 ghost use Rattle.sw_lex.specs.Values.{IsQuantity, ReadsQuantity, natural_in, digits_written, whole_of};
-ghost use Rattle.sw_lex.specs.Values.{continuous_of, macros_of};
+ghost use Rattle.sw_lex.specs.Values.{of_switch, switched_by, macros_of};
 ghost use Rattle.sw_lex.specs.Values.{time_unit_of, time_of, source_of, switch_of, source_meant};
 ghost use Rattle.sw_lex.specs.Values.{switch_meant, all_digits, unnumbered};
 
@@ -14,13 +14,13 @@ use crate::choice::{greatest, least, least_micros, of_whole};
 use crate::command::{Command, MacroCommand, Setting, Time};
 use crate::elements::value;
 use crate::headers::is_form;
-use crate::table::Whole;
+use crate::table::{Switch, Whole};
 use sw_base::{
     LONGEST_DELAY, LayerName, Nrf, ScpiError, Source, Unit, blanks, digits, letters, read_exponent,
     read_mantissa,
 };
 
-/// Whether only letters stand there, after white space.
+/// Whether the text has only letters, after white space.
 fn is_suffix(text: &[u8]) -> bool
     ensures { IsTrue result ↔ ((gap suffix : List ℕ) × Spans is_blank text.now gap suffix × AllPass is_letter suffix) }
 {
@@ -105,14 +105,24 @@ pub fn plain_of(ask: Whole, number: u8, digits: &[u8]) -> Result<Command, ScpiEr
     Ok(of_whole(ask, number, n as u32))
 }
 
-/// `INITiate:CONTinuous` with this number.
-pub fn continuous_of(n: &Nrf<'_>, suffix: &[u8]) -> Result<Command, ScpiError>
-    ensures { result ≡ continuous_of n.now suffix.now }
+/// The command that sets a switch.
+fn of_switch(ask: Switch, on: bool) -> Command
+    ensures { result ≡ of_switch ask on }
+{
+    match ask {
+        Switch::Continuous => Command::Continuous(on),
+        Switch::Programmed => Command::Set(Setting::Programmed(on)),
+    }
+}
+
+/// A switch's command with this number: 0 is OFF, any other ON.
+pub fn switched_by(ask: Switch, n: &Nrf<'_>, suffix: &[u8]) -> Result<Command, ScpiError>
+    ensures { result ≡ switched_by ask n.now suffix.now }
 {
     match suffix {
         [] => match n.whole(0, 0) {
-            Err(_) => Ok(Command::Continuous(true)),
-            Ok(_) => Ok(Command::Continuous(false)),
+            Err(_) => Ok(of_switch(ask, true)),
+            Ok(_) => Ok(of_switch(ask, false)),
         },
         _ => Err(ScpiError::SuffixNotAllowed),
     }
@@ -215,12 +225,12 @@ pub fn source_meant(layer: LayerName, text: &[u8]) -> Result<Command, ScpiError>
     }
 }
 
-/// `INITiate:CONTinuous` with this word.
-pub fn switch_meant(text: &[u8]) -> Result<Command, ScpiError>
-    ensures { result ≡ switch_meant text.now }
+/// A switch's command with this word.
+pub fn switch_meant(ask: Switch, text: &[u8]) -> Result<Command, ScpiError>
+    ensures { result ≡ switch_meant ask text.now }
 {
     match switch_of(text) {
-        Some(on) => Ok(Command::Continuous(on)),
+        Some(on) => Ok(of_switch(ask, on)),
         None => match source_of(text) {
             Some(_) => Err(ScpiError::IllegalParameterValue),
             None => Err(ScpiError::InvalidCharacterData),

@@ -27,7 +27,7 @@ named_by ms (common name) = None
 named_by ms (path true nodes) = None
 named_by ms (path false nodes) = macro_at ms nodes
 
--- the macro whose label is exactly the unit's header, without a colon and without a question mark
+-- the macro with exactly the unit's header as its label, without a colon and without a question mark
 abbrev pub called : List Macro → UnitSeen → Option Macro
 called ms unit = if unit.query then None else named_by ms unit.header
 
@@ -52,14 +52,14 @@ opened_found names unit n (Some m) =
     else result_map_both (λ text. Some (m.0, text)) (λ e. e) (put_in unit.elements m.1 n)
 
 -- The label and the filled body of the macro that a unit calls, or none where it calls none. The names are the labels
--- in whose bodies the unit stands, the outermost first; n bytes stand before it. A label inside its own body and a
+-- of the bodies that the unit is in, the outermost first; n bytes come before it. A label inside its own body and a
 -- ninth level are refused first.
 abbrev pub opened_macro : List Macro → List (List ℕ) → UnitSeen → ℕ → Result (Option Macro) ScpiError
 opened_macro ms names unit n = opened_found names unit n (called ms unit)
 
 -- ---- a filled body, unit by unit
 
--- a unit in its place: what stands before it, itself as it is written, what stands between it and the rest, and that
+-- a unit in its place: the bytes before it, itself as it is written, the bytes between it and the rest, and the rest
 pub record Place : Type 0 where
   pub before : List ℕ
   pub unit : UnitSeen
@@ -100,7 +100,7 @@ pub data Becomes (ms : List Macro) : List (List ℕ) → List ℕ → List ℕ �
       → opened_macro ms names p.unit (length (sofar ++ p.before)) ≡ Ok (Some m)
       → Becomes ms (names ++ m.0 ∷ []) m.1 (sofar ++ p.before) (Err e)
       → Becomes ms names text sofar (Err e)
-  -- what the body of a macro becomes stands in the unit's place
+  -- the expansion of the macro's body takes the unit's place
   goes : {names : List (List ℕ)} {text sofar done : List ℕ} {p : Place} {m : Macro} {r : Result (List ℕ) ScpiError}
       → IsFirstUnit text p
       → opened_macro ms names p.unit (length (sofar ++ p.before)) ≡ Ok (Some m)
@@ -119,7 +119,7 @@ BecomesOpened ms names (Ok (Some m)) sofar r = Becomes ms (names ++ m.0 ∷ []) 
 abbrev pub UnitBecomes : List Macro → List (List ℕ) → UnitSeen → List ℕ → Result (List ℕ) ScpiError → Type 0
 UnitBecomes ms names unit sofar r = BecomesOpened ms names (opened_macro ms names unit (length sofar)) sofar r
 
--- none of the text's units calls a macro, whichever are defined
+-- none of the text's units calls a macro, in any table of macros
 abbrev pub StaysAsItIs : List ℕ → Type 0
 StaysAsItIs text =
     (ms : List Macro) (names : List (List ℕ)) (sofar : List ℕ) → Becomes ms names text sofar (Ok (sofar ++ text))

@@ -33,7 +33,7 @@ filled ds (b ∷ c ∷ more) =
     if b == 36 && is_place c then text_joined (parameter ds (c - 49)) (filled ds more)
     else prefixed (b ∷ []) (filled ds (c ∷ more))
 
--- a filled body where n bytes stand before it: a missing parameter is refused first, then what is too long together
+-- a filled body behind n bytes: a missing parameter is the first refusal, then too much text together
 abbrev pub fitting : ℕ → Option (List ℕ) → Result (List ℕ) ScpiError
 fitting n None = Err MacroParameterError
 fitting n (Some text) = if nat_lt most_bytes (n + length text) then Err MacroRecursionError else Ok text
@@ -41,8 +41,8 @@ fitting n (Some text) = if nat_lt most_bytes (n + length text) then Err MacroRec
 abbrev pub put_in : List Datum → List ℕ → ℕ → Result (List ℕ) ScpiError
 put_in ds body n = fitting n (filled ds body)
 
--- A text that is written after n bytes, and what is kept of it: all, with room for so many bytes more, or what doesn't
--- matter, where it is too long.
+-- A text written after n bytes, and what the program keeps of it: all, with room for this many bytes more, or anything,
+-- where the text is too long.
 abbrev pub IsDraft : ℕ → List ℕ → List ℕ → Option ℕ → Type 0
 IsDraft n text kept None = most_bytes < n + length text
 IsDraft n text kept (Some room) = (kept ≡ text) × (n + length text + room ≡ most_bytes)

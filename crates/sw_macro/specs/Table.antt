@@ -11,7 +11,7 @@ use Rattle.sw_base.specs.declared.error.ScpiError.TheVariants.{TooMuchData, OutO
 use Rattle.sw_base.specs.Limits.{most_macros, longest_body}
 use Rattle.sw_macro.specs.Label.{is_label, in_capitals}
 
--- a label in capitals, and the body that it stands for
+-- a label in capitals, and its body
 abbrev pub Macro : Type 0
 Macro = List ℕ × List ℕ
 
@@ -75,7 +75,7 @@ refusal_to_find t label =
     else (if is_some (body_of (in_capitals label) t.macros) then None
     else Some MacroHeaderNotFound)
 
--- the refusal that applies, or where none does want of memory
+-- the refusal that applies, or a lack of memory where none does
 abbrev pub RefusedBy : Option ScpiError → ScpiError → Type 0
 RefusedBy (Some r) e = e ≡ r
 RefusedBy None e = e ≡ OutOfMemory

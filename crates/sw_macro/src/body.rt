@@ -12,7 +12,7 @@ use std::marker::Model;
 use sw_base::{Sequence, split_once};
 use sw_lex::{Elements, Header, RawUnit, next_unit};
 
-/// The body of a macro, with what is known of it whichever macros are defined. Contracts see its bytes.
+/// The body of a macro, with what holds of it in any table of macros. Contracts see its bytes.
 #[derive(Drop)]
 pub struct Body {
     text: Sequence<u8>,
@@ -69,7 +69,7 @@ impl Body {
     }
 }
 
-/// Whether no `$` stands in the bytes.
+/// Whether the bytes have no `$`.
 fn is_plain(bytes: &[u8]) -> bool
     ensures { result ≡ true → Lacks 36 bytes.now }
 {

@@ -21,7 +21,7 @@ use std::alloc::Global;
 use sw_base::{MACRO_LEVELS, MESSAGE_BYTES, ScpiError};
 use sw_lex::{Elements, RawUnit, gaps, next_unit};
 
-/// The labels in whose bodies a unit stands, the outermost first.
+/// The labels of the bodies that a unit is in, the outermost first.
 type Names = ArrayVec<Label, MACRO_LEVELS>;
 
 /// The macro that a unit calls: its label, and its body.
@@ -46,7 +46,7 @@ fn is_one_of(label: &Label, names: &[Label]) -> bool
     false
 }
 
-/// A text cut round the unit that stands first in its rest: what stands before the unit, and what follows it.
+/// A text cut round the first unit of its rest: the part before the unit, and the part after it.
 fn cut<'a>(text: &'a [u8], rest: &[u8], unit: &RawUnit<'_>) -> (&'a [u8], &'a [u8])
     requires ends { (front : List ℕ) × (text.now ≡ front ++ rest.now) }
     requires stands { (before left : List ℕ) × IsWritten rest.now before (unit_of unit.now) (written_of unit.now) left }
@@ -60,7 +60,7 @@ fn cut<'a>(text: &'a [u8], rest: &[u8], unit: &RawUnit<'_>) -> (&'a [u8], &'a [u
     (front, after)
 }
 
-/// Writes a text as it stands.
+/// Writes a text unchanged.
 fn write_text(text: &[u8], out: &mut Vec<u8>) -> Result<(), ScpiError>
     ensures ok { OnOk result (out.new.items ≡ out.old.items ++ text.now) }
     ensures err { IfErr result (λ e. e ≡ OutOfMemory) }
@@ -164,14 +164,14 @@ fn write_within(
 }
 
 impl Macros {
-    /// Whether a unit is replaced: then the text is its expansion. While macros are on, a unit whose header is exactly
-    /// a label, without a colon and a question mark, is replaced by the label's body, with each `$1` to `$9` replaced
-    /// by that data element as it is written, and each unit of the body replaced in the same way. Any other unit is
-    /// itself.
+    /// Whether an expansion replaces the unit: then the text is its expansion. While macros are on, the label's body
+    /// replaces a unit with exactly a label as its header, without a colon and a question mark. In the body that data
+    /// element, as it is written, replaces each `$1` to `$9`, and each unit of the body is replaced in the same way.
+    /// Any other unit is itself.
     ///
     /// At each label, the outer first and from left to right: -276 for a label inside its own body and for a ninth
-    /// level, -274 for a missing element, -276 where the text so far and the body come to more than 65,536 bytes. The
-    /// finished text is judged once more. -225 where a growth is refused.
+    /// level, -274 for a missing element, -276 where the text so far and the body are together more than 65,536 bytes.
+    /// The same limit applies to the finished text once more. -225 where the allocator refuses memory.
     pub fn expand(
         &self,
         alloc: Global,

@@ -80,8 +80,7 @@ fn put_at_mark<'a, 'b>(
     }
 }
 
-/// Appends the bytes where there is room for so many more, and gives the room that is left; none where there isn't
-/// enough.
+/// Appends the bytes where the room is enough for them, and gives the room that is left; none where it isn't enough.
 fn put(text: &mut Vec<u8>, bytes: &[u8], room: Option<usize>) -> Result<Option<usize>, AllocError>
     ensures { (n : ℕ) (whole : List ℕ) → IsDraft n whole text.old.items room
         → IfOk result (λ left. IsDraft n (whole ++ bytes.now) text.new.items left) }
@@ -98,16 +97,17 @@ fn put(text: &mut Vec<u8>, bytes: &[u8], room: Option<usize>) -> Result<Option<u
     }
 }
 
-/// Whether a body after so many bytes comes to more than 65,536 bytes.
+/// Whether `before` bytes and a body are together more than 65,536 bytes.
 pub fn is_too_long(before: usize, body: &[u8]) -> bool
     ensures { result ≡ nat_lt most_bytes (before + length body.now) }
 {
     before.saturating_add(body.len()) > MESSAGE_BYTES
 }
 
-/// A body with each `$1` to `$9` replaced by that data element of the unit, where so many bytes stand before it.
+/// A body with each `$1` to `$9` replaced by that data element of the unit, with `before` bytes ahead of it.
 ///
-/// -274 where an element is missing, else -276 where it all comes to more than 65,536 bytes. No more than that is kept.
+/// -274 where an element is missing, else -276 where all together is more than 65,536 bytes. It keeps no more than
+/// that.
 pub fn fill(
     alloc: Global,
     body: &[u8],

@@ -1,4 +1,4 @@
-//! Macros: labels that stand for bodies of program messages (IEEE 488.2, 10.7 to 10.9).
+//! Macros: labels for bodies of program messages (IEEE 488.2, 10.7 to 10.9).
 //!
 //! `Macros` is what a session has defined. Contracts see the list of the definitions that were taken and not removed or
 //! purged since, in order, and whether macros are on; each refusal comes exactly where its contract says. Of every list

@@ -53,7 +53,7 @@ impl Macros {
     }
 
     /// Defines a macro (`*DMC`). In this order: -273 for what is no label, -275 for a body of more than 4,096 bytes,
-    /// -277 for a label that is defined, -223 for a 65th macro, -225 for want of memory.
+    /// -277 for a label that is defined, -223 for a 65th macro, -225 for lack of memory.
     pub fn define(&mut self, alloc: Global, label: &[u8], body: &[u8]) -> Result<(), ScpiError>
         ensures taken { OnOk result (refusal_to_define self.old label.now body.now ≡ None) }
         ensures defined { OnOk result (self.new ≡ with_macro self.old label.now body.now) }

@@ -31,7 +31,7 @@ fn answer(text: &[u8]) -> (i64, bool) {
     }
 }
 
-/// Whether an entry's text is read as what stands behind it.
+/// Whether reading an entry's text gives the value behind it.
 fn is_read(entry: &[u8]) -> bool {
     let (value, read) = answer(text_of(entry));
     match wanted(entry, read) {
@@ -131,7 +131,7 @@ fn digits_that_count(rt: HostRuntime) {
     assert!(rt; is_whole(&long, 0, 9, Err(ScpiError::TooManyDigits)));
 }
 
-/// How much of the text stands behind its number.
+/// How many bytes of the text follow its number.
 fn rest_of(text: &[u8]) -> Option<usize> {
     match Nrf::read(text) {
         Ok((_, rest)) => Some(rest.len()),

@@ -174,7 +174,7 @@ fn refuses_other_texts_of_positions(rt: HostRuntime) {
     }
 }
 
-/// 512 positions, the last of two channels, and what stands behind them.
+/// 512 positions, the last of two channels, and more text behind them.
 fn after_512(alloc: Global, more: &[u8]) -> Result<Vec<u8>, Fail> {
     let mut text = b"(@1!1:1!99,1!1:1!99,1!1:1!99,1!1:1!99,1!1:1!99,1!1:1!16,1!1&2!1"
         .as_slice()

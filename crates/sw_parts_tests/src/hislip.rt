@@ -190,7 +190,7 @@ fn large_payload_is_skipped(rt: HostRuntime) {
     assert!(rt; is_skipped);
 }
 
-/// Whether a session that asks for a lock with this key is answered so.
+/// Whether a session that asks for a lock with this key gets this answer.
 fn answers(alloc: Global, locks: &mut Locks, sid: u8, key: &[u8], wanted: LockReply) -> bool {
     sid >= 1 && sid <= 16 && locks.ask(alloc, sid, key) == Ok(wanted)
 }
@@ -200,7 +200,7 @@ fn releases(locks: &mut Locks, sid: u8, wanted: Released) -> bool {
     sid >= 1 && sid <= 16 && locks.release(sid) == wanted
 }
 
-/// Whether this is told of the locks: whether one is exclusive, and how many sessions hold one.
+/// Whether the locks answer this: whether one is exclusive, and how many sessions hold one.
 fn tells(locks: &Locks, is_exclusive: bool, holders: u8) -> bool {
     locks.info() == (is_exclusive, holders)
 }
@@ -230,7 +230,7 @@ fn locks_go_by_their_rules(rt: HostRuntime) {
     assert!(rt; is_so);
 }
 
-/// Whether a session that asks with this many bytes `k` is answered so.
+/// Whether a session that asks with this many bytes `k` gets this answer.
 fn answers_long(
     alloc: Global,
     locks: &mut Locks,
@@ -242,7 +242,7 @@ fn answers_long(
     length <= 257 && answers(alloc, locks, sid, &key[..length], wanted)
 }
 
-/// Whether this is told of the locks once session 16 has left.
+/// Whether the locks answer this after session 16 has left.
 fn tells_without_16(locks: &mut Locks, is_exclusive: bool, holders: u8) -> bool {
     locks.leave(16);
     tells(locks, is_exclusive, holders)

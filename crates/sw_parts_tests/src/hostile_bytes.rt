@@ -7,14 +7,14 @@ use sw_base::ScpiError;
 use sw_hislip::{Decoder, Kind, Message, WireFault, encode};
 use sw_lex::{Elements, next_unit};
 
-/// What a decoder tells.
+/// What a decoder gives.
 #[derive(Clone, Copy, PartialEq, Eq)]
 enum Told {
     Whole(Kind),
     Fault(WireFault),
 }
 
-/// All that a decoder told, and the wire form of its messages.
+/// All that a decoder gave, and the wire form of its messages.
 #[derive(Drop)]
 struct Heard {
     told: Vec<Told>,
@@ -60,7 +60,7 @@ fn next(alloc: Global, decoder: &mut Decoder) -> Option<Result<Message, WireFaul
     }
 }
 
-/// Feeds a piece, and takes down what is told until nothing is; eight things at most.
+/// Feeds a piece, and records what the decoder gives until it gives nothing; eight things at most.
 fn hears(alloc: Global, decoder: &mut Decoder, heard: &mut Heard, piece: &[u8]) -> bool {
     if decoder.feed(piece).is_err() {
         return false;
@@ -76,12 +76,12 @@ fn hears(alloc: Global, decoder: &mut Decoder, heard: &mut Heard, piece: &[u8]) 
     false
 }
 
-/// Whether that was told of these messages.
+/// Whether the decoder gave these things, and messages of these bytes.
 fn is_as_wanted(heard: &Heard, told: &[Told], bytes: &[u8]) -> bool {
     heard.told.as_slice() == told && heard.bytes.as_slice() == bytes
 }
 
-/// Whether the stream, cut in two, is told so.
+/// Whether the decoder gives that for the stream, cut in two.
 fn tells_cut(alloc: Global, parts: (&[u8], &[u8]), told: &[Told], bytes: &[u8]) -> bool {
     let mut decoder = Decoder::new(alloc);
     let mut heard = Heard::new(alloc);
@@ -93,7 +93,7 @@ fn tells_cut(alloc: Global, parts: (&[u8], &[u8]), told: &[Told], bytes: &[u8]) 
     is_heard
 }
 
-/// Whether the stream is told so, cut after each of its first 32 bytes.
+/// Whether the decoder gives that for the stream, cut after each of its first 32 bytes.
 fn tells_each_cut(alloc: Global, stream: &[u8], told: &[Told], bytes: &[u8]) -> bool {
     for cut in 0..33usize {
         if cut <= stream.len() && !tells_cut(alloc, (&stream[..cut], &stream[cut..]), told, bytes) {
@@ -113,7 +113,7 @@ fn hears_bytes(alloc: Global, decoder: &mut Decoder, heard: &mut Heard, stream: 
     true
 }
 
-/// Whether the stream is told so, byte by byte.
+/// Whether the decoder gives that for the stream, byte by byte.
 fn tells_bytes(alloc: Global, stream: &[u8], told: &[Told], bytes: &[u8]) -> bool {
     let mut decoder = Decoder::new(alloc);
     let mut heard = Heard::new(alloc);
@@ -124,12 +124,12 @@ fn tells_bytes(alloc: Global, stream: &[u8], told: &[Told], bytes: &[u8]) -> boo
     is_heard
 }
 
-/// Whether the stream is told so, however it is cut.
+/// Whether the decoder gives that for the stream under every cut.
 fn tells(alloc: Global, stream: &[u8], told: &[Told], bytes: &[u8]) -> bool {
     tells_each_cut(alloc, stream, told, bytes) && tells_bytes(alloc, stream, told, bytes)
 }
 
-/// The header of a message without control code and parameter, whose payload has this many bytes.
+/// The header of a message without control code and parameter, with a payload of this many bytes.
 fn header(kind: u8, length: u64) -> [u8; 16] {
     let mut bytes = [0; 16];
     bytes[0] = b'H';

@@ -1,10 +1,10 @@
-//! Listings that nobody should send, ended after each of their bytes. What is answered is written here by the rules of
+//! Listings that no client should send, ended after each of their bytes. The tests have the answers by the rules of
 //! `docs/LISTING.md`: a line counts once its line feed is there, and a line without one is no step.
 
 use std::alloc::Global;
 use sw_code::{ListError, ListFault, read_listing};
 
-/// The first fault of a front part of a listing whose own first fault is this one.
+/// The first fault of a front part of a listing that itself has this first fault.
 fn fault_of(text: &[u8], fault: ListError) -> Option<ListError> {
     let mut lines = 0u32;
     let mut is_open = false;
@@ -37,7 +37,7 @@ fn is_answered(alloc: Global, text: &[u8], fault: Option<ListError>) -> bool {
     }
 }
 
-/// Whether each front part of a listing is answered by the rules, where this is its first fault.
+/// Whether each front part of a listing gets the answer of the rules, where this is its first fault.
 fn holds(alloc: Global, text: &[u8], line: u32, kind: ListFault) -> bool {
     let fault = ListError { line, kind };
     let mut is_so = is_answered(alloc, text, fault_of(text, fault));

@@ -1,5 +1,6 @@
-//! Library calls where a growth of memory is refused: what they answer is right or tells of that want, and what they
-//! work on stays as it was. `tests/growths/run --tests` runs these while each growth is refused in turn.
+//! Library calls where the allocator refuses a growth of memory: their answer is right or reports that lack, and what
+//! they work on stays as it was. `tests/growths/run --tests` runs these while the allocator refuses each growth in
+//! turn.
 
 use crate::positions::one_each;
 use std::alloc::{AllocError, Global};
@@ -222,7 +223,7 @@ fn compiles(alloc: Global, settings: &Settings, wanted: &[u8]) -> bool {
     }
 }
 
-/// Whether a copy of settings comes to the same, if there is memory.
+/// Whether a copy of settings compiles to the same, if there is memory.
 fn copies(alloc: Global, settings: &Settings, wanted: &[u8]) -> bool {
     match settings.try_copy(alloc) {
         Ok(copy) => {
@@ -357,7 +358,7 @@ fn is_initialize(alloc: Global, message: &Message) -> bool {
     }
 }
 
-/// Whether what stands in front is that Initialize, or lacks memory and stands there still.
+/// Whether the message in front is that Initialize, or lacks memory and is still there.
 fn gives(alloc: Global, decoder: &mut Decoder) -> bool {
     let room = decoder.room();
     match decoder.next(alloc) {
@@ -388,7 +389,7 @@ fn messages_are_right_or_lack_memory(rt: HostRuntime) {
     assert!(rt; is_so);
 }
 
-/// Whether a shared lock is granted, or finds no memory for its key and nobody holds one.
+/// Whether the table grants a shared lock, or finds no memory for its key and no session holds one.
 fn locks_shared(alloc: Global, locks: &mut Locks) -> bool {
     match locks.ask(alloc, 1, b"key") {
         Ok(reply) => reply == LockReply::Granted && locks.info() == (false, 1),

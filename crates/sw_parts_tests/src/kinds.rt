@@ -1,4 +1,4 @@
-//! Each kind through its box and as itself, over a driver that tells a record outside what it does.
+//! Each kind through its box and as itself, over a driver that writes what it does into a record outside.
 
 ghost use Rattle.std.specs.Prelude.{ℕ, Bool};
 

@@ -8,7 +8,9 @@ use sw_base::{ArmLayer, Chan, LayerName, Sequence, Source};
 use sw_channel::read_positions;
 use sw_code::{Code, print_listing, read_listing};
 use sw_trigger::Settings;
-use sw_verify::{BoxedSnapshot, Layout, Plan, Refusal, Slot, Snapshot, check, verify};
+use sw_verify::{
+    BoxedSnapshot, Layout, Loaded, Plan, Refusal, Setup, Slot, Snapshot, check, verify,
+};
 
 /// Twice ARM layer 1 by the bus, three times ARM layer 2 by a timer with a delay, four times ARM layer 3 by the
 /// external trigger, and three passes round two positions, each by TRIGger's timer with a delay.
@@ -94,7 +96,10 @@ fn snapshot(alloc: Global, list: &[u8], closed: &[Chan]) -> Result<Snapshot, Fai
     set_arms(&mut settings)?;
     set_passes(alloc, &mut settings, list)?;
     Ok(Snapshot {
-        settings,
+        settings: Setup {
+            scan: settings,
+            program: Loaded::Nothing,
+        },
         layout: cage(alloc)?,
         closed: Sequence::new(closed.to_vec(alloc)?),
     })
@@ -133,7 +138,7 @@ fn judged(
     }
 }
 
-/// Whether a plan is made of the scan, whose code is the listing's.
+/// Whether a plan of the scan has the listing's code.
 fn plans(rt: &impl Abort, alloc: Global) -> Result<(), Fail> {
     let scan = snapshot(alloc, b"(@1!1&1601,9!2)", &[Chan::new(16, 2)])?;
     let plan = Plan::make(alloc, BoxedSnapshot::new(alloc, scan)?)?;

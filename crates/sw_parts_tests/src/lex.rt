@@ -29,7 +29,7 @@ fn path_behind(alloc: Global, unit: &RawUnit<'_>) -> Path {
     path
 }
 
-/// The path that the first unit of a message leaves, and what stands behind it.
+/// The path that the first unit of a message leaves, and what follows it.
 fn path_and_rest(alloc: Global, message: &[u8]) -> Result<(Path, &[u8]), ScpiError> {
     match next_unit(message, &mut Elements::new())? {
         Some((unit, rest)) => Ok((path_behind(alloc, &unit), rest)),
@@ -49,6 +49,11 @@ fn parts(command: &Command) -> (&str, &[Chan]) {
         Command::Query(PlainQuery::Identify) => ("identify", &[]),
         Command::Query(PlainQuery::CloseState) => ("state?", &[]),
         Command::Query(PlainQuery::Headers) => ("headers?", &[]),
+        Command::Query(PlainQuery::ScanCheck) => ("scan check?", &[]),
+        Command::ListingCheck(listing) if listing.as_slice() == b"a;\n".as_slice() => (
+            "listing check?",
+            &[],
+        ),
         Command::Plain(Plain::Read) => ("read?", &[]),
         Command::Channels(Channels::Close, list) => ("close", list.as_slice()),
         Command::Channels(Channels::CloseQuery, list) => ("close?", list.as_slice()),
@@ -124,6 +129,16 @@ fn reads_commands(rt: HostRuntime) {
         )
     );
     assert!(rt; reads_second(alloc, b"FOO;*IDN?", "identify", &[]));
+    assert!(rt; reads_first(alloc, b"DIAG:SCAN:CHEC?", "scan check?", &[]));
+    assert!(rt; reads_first(alloc, b"DIAG:SCAN:CHEC? #13a;\n", "listing check?", &[]));
+    assert!(rt; refuses_first(alloc, b"DIAG:SCAN:CHEC? 5", ScpiError::DataTypeError));
+    assert!(rt;
+        refuses_first(
+            alloc,
+            b"DIAG:SCAN:CHEC? #10,#10",
+            ScpiError::ParameterNotAllowed
+        )
+    );
 }
 
 #[test]

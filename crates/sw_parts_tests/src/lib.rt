@@ -1,5 +1,5 @@
 //! Tests of the libraries below the cage, by their public calls: what no contract says, the worked examples, and each
-//! public call once with ample memory. They stand here so that no crate is proved a second time for its tests.
+//! public call once with ample memory. They are here so that no crate is proved a second time for its tests.
 #![tactic(auto)]
 
 #[cfg(test)]

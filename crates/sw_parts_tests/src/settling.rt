@@ -1,5 +1,5 @@
-//! The code of scans whose positions settle: its listing, and that of the longest list with every wait and pause that a
-//! scan can have, which has room, and is verified once it was printed and read.
+//! The code of scans that let positions settle: its listing, and that of the longest list with every wait and pause
+//! that a scan can have, which has room, and which the check accepts after printing and reading.
 
 use std::alloc::Global;
 use std::process::Abort;
@@ -8,7 +8,7 @@ use sw_base::{ARMS, Chan, LayerName, ScpiError, Sequence, Source};
 use sw_channel::Position;
 use sw_code::{Code, print_listing, read_listing};
 use sw_trigger::Settings;
-use sw_verify::{BoxedSnapshot, Layout, Plan, Slot, Snapshot, verify};
+use sw_verify::{BoxedSnapshot, Layout, Loaded, Plan, Setup, Slot, Snapshot, verify};
 
 /// 99 channels of no group in slot 16, and a meter in slot 4.
 fn cage(alloc: Global) -> Result<Layout, Fail> {
@@ -77,7 +77,10 @@ fn set_longest(alloc: Global, settings: &mut Settings) -> Result<(), Fail> {
 /// The plan of a scan by these settings, where nothing is closed.
 fn planned(alloc: Global, settings: Settings) -> Result<Plan, Fail> {
     let snapshot = Snapshot {
-        settings,
+        settings: Setup {
+            scan: settings,
+            program: Loaded::Nothing,
+        },
         layout: cage(alloc)?,
         closed: Sequence::new(Vec::new(alloc)),
     };

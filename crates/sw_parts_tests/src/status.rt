@@ -59,7 +59,7 @@ fn newest_of_33_errors_is_overflow(rt: HostRuntime) -> Result<(), Fail> {
     Ok(())
 }
 
-/// Power came on: that is told once.
+/// Power came on: the status reports that once.
 fn begin(rt: &impl Abort, status: &mut Status) {
     assert_eq!(rt; status.esr(), 128);
     assert!(rt; reads_esr(status, 128) && reads_esr(status, 0));
@@ -102,7 +102,7 @@ fn takes_event(status: &mut Status, which: StatusGroup, wanted: u16) -> bool {
     status.take_event(which) == wanted
 }
 
-/// An event of the questionable group is told once, and its condition stays.
+/// The status reports an event of the questionable group once, and its condition stays.
 fn rise(rt: &impl Abort, status: &mut Status) {
     status.set_condition(StatusGroup::Questionable, 512);
     assert!(rt; takes_event(status, StatusGroup::Questionable, 512));
@@ -139,7 +139,7 @@ fn each_group_latches_its_events(rt: HostRuntime) -> Result<(), Fail> {
     Ok(())
 }
 
-/// Whether this many service requests stand at the end of an event, with an error in it or none.
+/// Whether there are this many service requests after the end of an event, with an error in it or none.
 fn requests(status: &mut Status, is_faulty: bool, wanted: u64) -> bool {
     if is_faulty {
         fault(status);

@@ -1,4 +1,4 @@
-//! Worked settings, with what they come to.
+//! Worked settings, with their agendas and bounds.
 
 use crate::positions::one_each;
 use std::alloc::{AllocError, Global};
@@ -321,7 +321,7 @@ fn settles(alloc: Global, settings: &mut Settings) -> Result<bool, Fail> {
     )
 }
 
-/// Whether the time is kept in its range, told, copied and compared, and gone at a reset.
+/// Whether the settings keep the time in its range, answer, copy and compare it, and drop it at a reset.
 fn keeps_its_settling(alloc: Global, settings: &mut Settings) -> Result<bool, Fail> {
     let is_refused = is_out_of_range(settings.set_settling(3_600_000_001));
     let mut copy = settings.try_copy(alloc)?;

@@ -7,7 +7,7 @@ use std::test::Fail;
 use sw_base::{ArmLayer, Chan, LayerName, ScpiError, Sequence, Source};
 use sw_channel::{Position, read_positions};
 use sw_trigger::Settings;
-use sw_verify::{BoxedSnapshot, Layout, Plan, Refusal, Slot, Snapshot, check, laws};
+use sw_verify::{BoxedSnapshot, Layout, Loaded, Plan, Refusal, Setup, Slot, Snapshot, check, laws};
 
 /// Twenty channels of group 1 in slot 1, sixteen of none in slot 2, ten of group 1 in slot 3, and a meter in slot 4.
 fn cage(alloc: Global) -> Result<Layout, Fail> {
@@ -28,7 +28,10 @@ fn snapshot_of(alloc: Global, positions: Vec<Position>, closed: &[Chan]) -> Resu
     let mut settings = Settings::new(alloc);
     settings.set_list(positions)?;
     Ok(Snapshot {
-        settings,
+        settings: Setup {
+            scan: settings,
+            program: Loaded::Nothing,
+        },
         layout: cage(alloc)?,
         closed: Sequence::new(closed.to_vec(alloc)?),
     })
@@ -67,10 +70,10 @@ fn gives_of(
 
 /// Sets a count. It promises nothing, so that a test is checked without all that `set_count` promises.
 fn set_count(scan: &mut Snapshot, name: LayerName, count: u32) -> Result<(), ScpiError> {
-    scan.settings.set_count(name, count)
+    scan.settings.scan.set_count(name, count)
 }
 
-/// Whether the check says that of a scan with so many passes.
+/// Whether the check says that of a scan with `count` passes.
 fn gives_with(
     scan: &mut Snapshot,
     count: u32,
@@ -122,7 +125,7 @@ fn used_entries_are_judged_and_no_others(rt: HostRuntime) -> Result<(), Fail> {
 
 /// Whether the check says that of a scan by the meter of slot 2.
 fn gives_in_slot_2(scan: &mut Snapshot, wanted: Result<(), Refusal>) -> Result<bool, ScpiError> {
-    scan.settings.set_meter(2)?;
+    scan.settings.scan.set_meter(2)?;
     Ok(is_judged(scan, wanted))
 }
 
@@ -165,9 +168,9 @@ fn channels_of_a_position_are_judged_together(rt: HostRuntime) -> Result<(), Fai
 fn fit(rt: &impl Abort, scan: &mut Snapshot) -> Result<(), Fail> {
     set_count(scan, LayerName::Arm(ArmLayer::First), 2)?;
     set_count(scan, LayerName::Trigger, 3)?;
-    scan.settings.set_points(5)?;
+    scan.settings.scan.set_points(5)?;
     assert!(rt; is_judged(scan, Err(Refusal::TooManyReadings)));
-    scan.settings.set_points(6)?;
+    scan.settings.scan.set_points(6)?;
     assert!(rt; is_judged(scan, Ok(())));
     Ok(())
 }
@@ -180,7 +183,7 @@ fn readings_fit_the_points(rt: HostRuntime) -> Result<(), Fail> {
     result
 }
 
-/// What a layout tells of its slots.
+/// What a layout says of its slots.
 fn tell(rt: &impl Abort, layout: &Layout) {
     assert_eq!(rt; layout.group(Chan::new(3, 10)), 1);
     assert_eq!(rt; layout.group(Chan::new(3, 11)), 0);
@@ -193,9 +196,13 @@ fn tell(rt: &impl Abort, layout: &Layout) {
 
 /// The laws of a plan. They cost nothing.
 fn obey(plan: &Plan) {
-    laws::ends_as_it_began(plan.snapshot());
-    laws::closes_one_position_at_a_time(plan.snapshot());
-    laws::stays_within_its_points(plan.snapshot());
+    let snapshot = plan.snapshot();
+    laws::ends_as_it_began(snapshot);
+    laws::stays_within_its_points(snapshot);
+    match &snapshot.settings.program {
+        Loaded::Nothing => laws::closes_one_position_at_a_time(snapshot),
+        _ => {}
+    }
 }
 
 #[test]

@@ -1,4 +1,4 @@
--- What the table of a card means: the card, or its first fault. What is looked at first: the card and its driver, then
+-- What the table of a card means: the card, or its first fault. The order of the checks: the card and its driver, then
 -- whether each key is one of such a card, then the keys in the order below.
 use Rattle.std.specs.Prelude.{ℕ, ◌+◌, ◌-◌, ◌==◌, nat_lt, pos, Bool, true, not, ◌&&◌, List, [], ◌∷◌, length, replicate}
 use Rattle.std.specs.Prelude.{take, Option, Some, None, is_some, Result, Ok, Err, codes, if◌then◌else◌}
@@ -40,7 +40,7 @@ meter_form word =
     else if bytes_eq word (codes "scpi") then Ok (forms.Meter meters.Scpi)
     else Err (causes.Word choices.MeterDriver, word)
 
--- what must stand at a key
+-- the text that a table must have at a key
 unfoldable pub wanted_text : Key → Members → Result (List ℕ) Miss
 wanted_text key ms = text_at key ms >>= wanted key
 
@@ -69,7 +69,7 @@ text_or key usual ms = text_at key ms >>= λ found. Ok (otherwise usual found)
 unfoldable pub number_or : Key → ℕ → ℕ → ℕ → Members → Result ℕ Miss
 number_or key low high usual ms = number_at key low high ms >>= λ found. Ok (otherwise usual found)
 
--- the devices whose kernel driver waits by itself
+-- the devices that have a kernel driver that waits by itself
 abbrev pub device_at : List ℕ → PlaceSeen
 device_at path = if bytes_eq (codes "/dev/usbtmc") (take 11 path) then Waiting path else Device path
 
@@ -86,7 +86,7 @@ place_of ms = do
   device ← text_at keys.Device ms
   one_place address device
 
--- the groups of so many channels: one for all, or a list of them
+-- the groups of this many channels: one for all, or a list of them
 abbrev pub chosen_groups : ℕ → Option ℕ → Option (List ℕ) → Result (List ℕ) Miss
 chosen_groups channels None None = Ok (replicate channels 0)
 chosen_groups channels (Some group) None = Ok (replicate channels group)
@@ -134,7 +134,7 @@ modbus_of place least most channels ms = do
 
 -- ---- relays on a board that obeys lines
 
--- a template that says something for each of so many channels: it does where it does for the last one
+-- a template that has a text for each of this many channels: it does where it does for the last one
 abbrev pub some_template : Key → ℕ → List ℕ → Result (List ℕ) Miss
 some_template key channels text = if is_some (rendered channels text) then Ok text else Err (causes.Template key, text)
 
@@ -154,11 +154,11 @@ template_or key usual channels ms = template_at key channels ms >>= λ found. Ok
 unfoldable pub texts_or : Key → List (List ℕ) → Members → Result (List (List ℕ)) Miss
 texts_or key usual ms = texts_at key ms >>= λ found. Ok (otherwise usual found)
 
--- nothing can be wanted of an answer whose end isn't known
+-- a card may want something of an answer only where the file gives the answer's end
 abbrev pub needs_end : Bool → Bool → Result (Unit {0}) Miss
 needs_end wants has_end = if wants && not has_end then Err (causes.Missing keys.AnswerEnd, []) else Ok tt
 
--- how the state is asked for, and what the answers have: all three, or none
+-- the query of the state, and what the answers have: all three, or none
 abbrev pub whole_state : Option (List ℕ) → Option (List ℕ) → Option (List ℕ) → Result (Option StateSeen) Miss
 whole_state None None None = Ok None
 whole_state None on off = Err (causes.Missing keys.State, [])

@@ -1,4 +1,4 @@
--- The coils of a relay card whose board speaks Modbus.
+-- The coils of a relay card over a board that speaks Modbus.
 use Rattle.std.specs.Prelude.{ℕ, ◌+◌, ◌≤◌, length}
 use Rattle.std.specs.Coded.{Unit-prop, le_prop}
 use Rattle.sw_rack.specs.declared.kind.CardKind.{CardKind}
@@ -6,7 +6,7 @@ use Rattle.sw_rack.specs.declared.kind.CardKind.TheVariants as kinds
 use Rattle.sw_rack.specs.declared.kind.Relays.{Relays}
 use Rattle.sw_rack.specs.declared.kind.Relays.TheVariants as relays
 
--- so many channels have coils at the addresses of Modbus, which are below 65536
+-- this many channels have coils at the addresses of Modbus, which are below 65536
 abbrev pub HasCoils : ℕ → Relays → Type 0
 HasCoils channels (relays.ModbusTcp board) = board.first_coil + channels ≤ 65536
 HasCoils channels (relays.ModbusRtu board) = board.first_coil + channels ≤ 65536

@@ -9,7 +9,7 @@ use Rattle.sw_rack.specs.declared.cause.Wanted.TheVariants as wants
 use Rattle.sw_rack.specs.Keys.{name_of}
 use Rattle.sw_rack.specs.Reading.{Miss, ◌>>=◌}
 
--- what stands at the key
+-- the value at the key
 abbrev pub member_at : Key → Members → Option Data
 member_at key ms = get_member (name_of key) ms
 

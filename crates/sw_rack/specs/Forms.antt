@@ -49,7 +49,7 @@ is_scpi_meter form = false
 abbrev pub is_anywhere : Form → Bool
 is_anywhere form = is_lines form || is_scpi_relays form || is_scpi_meter form
 
--- where each key stands
+-- the forms that have each key
 abbrev pub takes : Form → Key → Bool
 takes form keys.Card = true
 takes form keys.Serial = true

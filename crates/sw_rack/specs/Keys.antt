@@ -1,4 +1,4 @@
--- The keys of a card's table, as they stand in a file.
+-- The keys of a card's table, as a file writes them.
 use Rattle.std.specs.Prelude.{ℕ, List, [], ◌∷◌, Option, Some, None, codes, if◌then◌else◌}
 use Rattle.std.specs.Str.{bytes_eq}
 use Rattle.sw_rack.specs.declared.key.Key.{Key}

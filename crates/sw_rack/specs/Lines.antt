@@ -13,7 +13,7 @@ use Rattle.sw_rack.specs.declared.key.Key.TheVariants as keys
 use Rattle.sw_rack.specs.Keys.{name_of}
 use Rattle.sw_rack.specs.Templates.{decimal}
 
--- the line of a place, from 1: one more than line feeds stand before it
+-- the line of a place, from 1: one more than the line feeds before it
 abbrev pub line_at : List ℕ → ℕ → ℕ
 line_at text place = 1 + count_by (λ byte. byte == 10) (take place text)
 

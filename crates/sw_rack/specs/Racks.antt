@@ -48,7 +48,7 @@ version_one d = Err (causes.Version, [])
 
 -- ---- slots
 
--- one of so many slots, from this one on, is written so: without zeros in front
+-- the name of one of this many slots, from this one on, without zeros in front
 abbrev pub is_slot : ℕ → ℕ → List ℕ → Bool
 is_slot zero slot name = false
 is_slot (suc more) slot name = bytes_eq (decimal slot) name || is_slot more (slot + 1) name
@@ -72,7 +72,7 @@ abbrev pub card_at : ℕ → Option Data → Result (Option CardSeen) Fault
 card_at slot None = Ok None
 card_at slot (Some d) = placed (Some slot) (card_of slot d) >>= λ card. Ok (Some card)
 
--- the cards of so many slots from this one on
+-- the cards of this many slots from this one on
 unfoldable pub cards_from : ℕ → ℕ → Members → Result (List CardSeen) Fault
 cards_from zero slot slots = Ok []
 cards_from (suc more) slot slots = do

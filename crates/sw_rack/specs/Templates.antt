@@ -1,5 +1,5 @@
--- What a template sends for a channel. Within braces stands `ch`, the channel's number, or `ch0`, one less; `:02`
--- behind it asks for two digits, `:X` for one digit of base 36.
+-- What a template sends for a channel. Within braces is `ch`, the channel's number, or `ch0`, one less; `:02` behind it
+-- asks for two digits, `:X` for one digit of base 36.
 use Rattle.std.specs.Prelude.{ℕ, ◌+◌, ◌-◌, ◌/◌, ◌%◌, ◌==◌, nat_lt, List, [], ◌∷◌, ◌++◌, Option, Some, None}
 use Rattle.std.specs.Prelude.{codes, if◌then◌else◌}
 use Rattle.std.specs.Str.{bytes_eq}
@@ -14,7 +14,7 @@ decimal n = if nat_lt n 10 then (48 + n) ∷ [] else two_digits n
 abbrev pub one_digit : ℕ → Option (List ℕ)
 one_digit n = if nat_lt n 10 then Some ((48 + n) ∷ []) else if nat_lt n 36 then Some ((55 + n) ∷ []) else None
 
--- what a word within braces stands for
+-- the digits that replace a word within braces
 abbrev pub word_for : ℕ → List ℕ → Option (List ℕ)
 word_for ch word =
     if bytes_eq word (codes "ch") then Some (decimal ch)
@@ -30,7 +30,7 @@ joined None rest = None
 joined (Some front) None = None
 joined (Some front) (Some rest) = Some (front ++ rest)
 
--- the rest of a template from a place outside braces, and from one within them behind so much of a word; None where a
+-- the rest of a template from a place outside braces, and from one within them behind this part of a word; None where a
 -- word means nothing, and where braces aren't closed
 unfoldable mutual
   pub rendered : ℕ → List ℕ → Option (List ℕ)

@@ -7,7 +7,7 @@ use crate::form::Form;
 use crate::key::Key;
 use std::alloc::{AllocError, AllocFailed};
 
-/// What the value of a key is to be.
+/// What the value of a key must be.
 #[derive(Clone, Copy, Debug, PartialEq, Eq)]
 pub enum Wanted {
     Text,
@@ -17,7 +17,7 @@ pub enum Wanted {
     Numbers,
 }
 
-/// Words of which one is to be chosen.
+/// Words; the value must be one of them.
 #[derive(Clone, Copy, Debug, PartialEq, Eq)]
 pub enum Choice {
     Card,
@@ -25,7 +25,7 @@ pub enum Choice {
     MeterDriver,
 }
 
-/// What is wrong with a file that is TOML. A fault has a word beside it, which is said here.
+/// What is wrong with a file that is TOML. A fault has a word beside it; each variant says which.
 #[derive(Clone, Copy, Debug, PartialEq, Eq)]
 pub enum Cause {
     /// The key, the word, is neither `version` nor `slot`.
@@ -36,7 +36,7 @@ pub enum Cause {
     NoCard,
     /// The key under `slot`, the word, is no slot.
     NoSuchSlot,
-    /// This is to be a table, and is of another type, the word.
+    /// This must be a table, and is of another type, the word.
     NoTable,
     /// No card has this key, the word.
     Unknown,
@@ -47,17 +47,17 @@ pub enum Cause {
     OneOf(Key, Key),
     /// The value is of another type, the word.
     Mistyped(Key, Wanted),
-    /// The value is to be from the first to the second number, and is the third.
+    /// The value must be from the first to the second number, and is the third.
     Range(Key, u32, u32, i64),
     /// The text or the list has nothing in it.
     Empty(Key),
     /// The word is none of these.
     Word(Choice),
-    /// There are so many groups for so many channels.
+    /// The number of groups, and the number of channels, which differs from it.
     Groups(usize, u32),
     /// The last channel's coil would have this address.
     Coil(u32),
-    /// Within the braces of the word stands what means nothing there.
+    /// The braces of the word have a word in them that means nothing there.
     Template(Key),
 }
 

@@ -12,7 +12,7 @@ use crate::key::Key;
 use std::alloc::Global;
 use toml::{Table, Value};
 
-/// What stands at the key.
+/// The value at the key.
 fn member(table: &Table, key: Key) -> Option<&Value>
     ensures { option_map (λ v. view v.now) result ≡ member_at key (table_view table.now) }
 {

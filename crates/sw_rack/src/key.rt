@@ -63,7 +63,7 @@ const KEYS: [Key; 25] = [
 ];
 
 impl Key {
-    /// The key as it stands in a file.
+    /// The key as a file writes it.
     pub fn name(self) -> &'static str
         ensures { result.now ≡ name_of self }
     {

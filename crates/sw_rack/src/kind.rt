@@ -1,4 +1,4 @@
-//! What a card is, and what stands behind it.
+//! What a card is, and what it drives or reads.
 
 ghost use Rattle.std.specs.Prelude.{◌≤◌, length};
 ghost use Rattle.sw_base.specs.Limits.{most_channels};
@@ -40,7 +40,7 @@ pub enum Meter {
 pub enum Place {
     Address(String),
     Device(String),
-    /// A device whose kernel driver waits by itself.
+    /// A device with a kernel driver that waits by itself.
     Waiting(String),
 }
 
@@ -54,7 +54,7 @@ pub struct Modbus {
     pub confirm: bool,
 }
 
-/// A board that obeys lines. What is sent for a channel is a template.
+/// A board that obeys lines. The text for a channel is a template.
 #[derive(Drop)]
 pub struct Lines {
     pub place: Place,
@@ -62,16 +62,16 @@ pub struct Lines {
     pub on: String,
     pub off: String,
     pub all_off: Vec<String>,
-    /// How each answer ends; nothing is read where it is empty.
+    /// How each answer ends; the driver reads no answer where it is empty.
     pub answer_end: String,
-    /// What stands in each answer.
+    /// The text that each answer contains.
     pub answer: String,
     pub state: Option<State>,
-    /// What is sent whenever the board is reached anew.
+    /// What the driver sends each time it reaches the board anew.
     pub setup: Vec<String>,
 }
 
-/// How a channel's state is asked for, and what the answer has where it is on, and where it is off.
+/// The query of a channel's state, and what the answer has where it is on, and where it is off.
 #[derive(Drop)]
 pub struct State {
     pub query: String,
@@ -84,7 +84,7 @@ pub struct State {
 pub struct Query {
     pub place: Place,
     pub limit_ms: u32,
-    /// What is sent whenever the meter is reached anew.
+    /// What the driver sends each time it reaches the meter anew.
     pub setup: Vec<String>,
     /// What asks for a reading.
     pub query: String,

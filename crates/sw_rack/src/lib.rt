@@ -1,10 +1,10 @@
-//! The description of a rack: which card is in which slot, and what stands behind it.
+//! The description of a rack: which card is in which slot, and what it drives or reads.
 //!
 //! The crate's contract to the layers above: a text means one rack, or is no TOML, or has one first fault, as `rack_of`
 //! of `specs/Racks` says. A rack has slots from 1 to 16, each once, a relay card from 1 to 99 channels, and each
 //! channel of a board that speaks Modbus has a coil.
 //!
-//! It opens no file and no line. Nothing is promised of what an address or a path reaches.
+//! It opens no file and no line. It promises nothing of what an address or a path reaches.
 #![tactic(auto)]
 
 mod card;

@@ -83,7 +83,7 @@ fn or_empty(alloc: Global, text: Option<String>) -> String
     }
 }
 
-/// Nothing can be wanted of an answer whose end isn't known.
+/// A card may want something of an answer only where the file gives the answer's end.
 fn needs_end(alloc: Global, is_wanted: bool, has_end: bool) -> Result<(), ReadError>
     ensures { Gives (λ _. tt) result (needs_end is_wanted has_end) }
 {
@@ -93,7 +93,7 @@ fn needs_end(alloc: Global, is_wanted: bool, has_end: bool) -> Result<(), ReadEr
     Ok(())
 }
 
-/// How a channel's state is asked for.
+/// The query of a channel's state.
 #[tactic(auto, unfolding(crate::specs::Cards::state_of))]
 fn read_state(
     alloc: Global,
@@ -158,7 +158,7 @@ fn template(
     }
 }
 
-/// The text, where it says something for each of so many channels.
+/// The text, where it is a template that has a text for each of `channels` channels.
 fn some_template(alloc: Global, key: Key, channels: u32, text: &str) -> Result<String, ReadError>
     requires { channels ≤ most_channels }
     ensures { Gives string_bytes result (some_template key channels text.now) }

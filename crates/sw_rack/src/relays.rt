@@ -1,4 +1,4 @@
-//! What stands behind a relay card.
+//! What a relay card drives.
 
 ghost use Rattle.std.specs.Prelude.{◌≡◌, ◌≤◌, ◌+◌, option_map, length, IfOk, IfSome};
 ghost use Rattle.sw_base.specs.Limits.{most_channels};
@@ -18,7 +18,7 @@ use crate::usual::{device_at, number_or, wanted_text};
 use std::alloc::Global;
 use toml::Table;
 
-/// The groups of a card of so many channels.
+/// The groups of a card of `channels` channels.
 #[tactic(auto, unfolding(crate::specs::Cards::groups_of))]
 pub fn read_groups(alloc: Global, table: &Table, channels: u32) -> Result<Groups, ReadError>
     requires { (1 ≤ channels) × (channels ≤ most_channels) }
@@ -62,7 +62,7 @@ fn choose_groups(
     Ok(Groups { numbers })
 }
 
-/// What stands behind a relay card of so many channels.
+/// What a relay card of `channels` channels drives.
 #[tactic(auto, unfolding(crate::specs::Cards::behind_of))]
 pub fn read_behind(
     alloc: Global,
@@ -108,7 +108,7 @@ fn rtu_place(alloc: Global, table: &Table) -> Result<Place, ReadError>
     Ok(device_at(alloc, path)?)
 }
 
-/// A board that speaks Modbus, whose unit has a number of these.
+/// A board that speaks Modbus, with a unit number from these.
 #[tactic(auto, unfolding(crate::specs::Cards::modbus_of))]
 fn read_modbus(
     alloc: Global,
@@ -140,7 +140,7 @@ fn read_modbus(
     })
 }
 
-/// The first coil, where so many channels have coils from it on.
+/// The first coil, where `channels` channels have coils from it on.
 fn check_coils(alloc: Global, channels: u32, first: u32) -> Result<u16, ReadError>
     requires channels { (1 ≤ channels) × (channels ≤ most_channels) }
     requires first { first ≤ 65535 }

@@ -1,4 +1,4 @@
-//! Templates of what is sent for a channel.
+//! Templates of what a driver sends for a channel.
 
 ghost use Rattle.std.specs.Prelude.{◌≡◌, ◌≤◌, ◌<◌, ◌++◌, IfOk, IfSome, OnOk, is_some, option_map};
 ghost use Rattle.sw_base.specs.Limits.{most_channels};
@@ -7,7 +7,7 @@ ghost use Rattle.sw_rack.specs.Templates.{decimal, one_digit, rendered, two_digi
 use arrayvec::ArrayVec;
 use std::alloc::{AllocError, Global};
 
-/// What a word within braces stands for.
+/// The digits that replace a word within braces.
 type Digits = ArrayVec<u8, 2>;
 
 /// What a template sends for a channel; none where a word within braces means nothing, or isn't ended.
@@ -43,7 +43,7 @@ pub fn rendered(alloc: Global, template: &str, channel: u8) -> Result<Option<Vec
     Ok(Some(sent))
 }
 
-/// What a word within braces stands for.
+/// The digits that replace a word within braces.
 fn word_for(word: &[u8], channel: u8) -> Option<Digits>
     requires { channel ≤ most_channels }
     ensures { option_map (λ d. d.items) result ≡ word_for channel word.now }

@@ -15,7 +15,7 @@ use crate::kind::Place;
 use std::alloc::{AllocError, Global};
 use toml::Table;
 
-/// The text that must stand at the key.
+/// The text that the table must have at the key.
 #[tactic(auto, unfolding(crate::specs::Cards::wanted_text))]
 pub fn wanted_text(alloc: Global, table: &Table, key: Key) -> Result<&str, ReadError>
     ensures { Gives (λ s. s.now) result (wanted_text key (table_view table.now)) }

@@ -1,10 +1,10 @@
-//! What is told of each fault, behind the file's name.
+//! The message of each fault, behind the file's name.
 
 use std::alloc::Global;
 use std::test::Fail;
 use sw_rack::read_rack;
 
-/// Whether this is what is told of the text.
+/// Whether this is the message of the text's fault.
 fn tells(alloc: Global, text: &str, wanted: &str) -> bool {
     let Err(error) = read_rack(alloc, text) else {
         return false;
@@ -15,7 +15,7 @@ fn tells(alloc: Global, text: &str, wanted: &str) -> bool {
     }
 }
 
-/// Whether this is told of a card of simulated relays in slot 1 that has these lines, from line 5 on.
+/// Whether this is the message for a card of simulated relays in slot 1 that has these lines, from line 5 on.
 fn tells_of(alloc: Global, lines: &str, wanted: &str) -> bool {
     let head = "version = 1\n[slot.1]\ncard = \"relays\"\ndriver = \"simulated\"\n";
     match format!(in alloc; "{head}{lines}") {
@@ -24,7 +24,7 @@ fn tells_of(alloc: Global, lines: &str, wanted: &str) -> bool {
     }
 }
 
-/// Whether this is told of a card of relays with this driver in slot 1 that has these lines, from line 6 on.
+/// Whether this is the message for a card of relays with this driver in slot 1 that has these lines, from line 6 on.
 fn tells_by(alloc: Global, driver: &str, lines: &str, wanted: &str) -> bool {
     let head = "version = 1\n[slot.1]\ncard = \"relays\"\nchannels = 8\n";
     match format!(in alloc; "{head}driver = \"{driver}\"\n{lines}") {
@@ -357,7 +357,7 @@ fn faults_of_lines(rt: HostRuntime) -> Result<(), Fail> {
     Ok(())
 }
 
-/// A card of no kind, and a meter of none: the words are told with what may stand there, on one line.
+/// A card of no kind, and a meter of none: the message has the words with those that are valid there, on one line.
 #[test]
 fn faults_of_words(rt: HostRuntime) -> Result<(), Fail> {
     let alloc = rt.alloc();
@@ -385,7 +385,7 @@ fn faults_of_words(rt: HostRuntime) -> Result<(), Fail> {
     Ok(())
 }
 
-/// The first fault is that of the lowest slot, wherever it stands.
+/// The first fault is that of the lowest slot, anywhere in the file.
 #[test]
 fn slots_go_in_order(rt: HostRuntime) -> Result<(), Fail> {
     let alloc = rt.alloc();

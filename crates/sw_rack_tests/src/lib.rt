@@ -1,4 +1,4 @@
-//! Tests of racks by the public calls: files and what they mean, and the line that is told of each fault.
+//! Tests of racks by the public calls: files and what they mean, and the message of each fault.
 #![tactic(auto)]
 
 #[cfg(test)]

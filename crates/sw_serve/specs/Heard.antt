@@ -1,4 +1,4 @@
--- What the first bytes of a message tell of a connection.
+-- What the first bytes of a message say of a connection.
 use Rattle.std.specs.Prelude.{ℕ, ◌+◌, ◌*◌, ◌==◌, if◌then◌else◌, List, ◌∷◌, Option, Some, None}
 use Rattle.sw_hislip.specs.declared.kind.Kind.TheVariants.{InitializeResponse, FatalError}
 use Rattle.sw_hislip.specs.declared.kind.Kind.TheVariants.{AsyncInitialize, AsyncInitializeResponse}
@@ -6,8 +6,8 @@ use Rattle.sw_hislip.specs.Kinds.{kind_number}
 use Rattle.sw_serve.specs.declared.visitor.Said.{Said}
 use Rattle.sw_serve.specs.declared.visitor.Said.TheVariants.{Joins, Attaches, Fails, Other}
 
--- The kind of a message is its third byte, its control code the fourth, and the lower half of its parameter, in which
--- a session's number stands, its seventh and eighth.
+-- The kind of a message is its third byte, its control code the fourth. The lower half of its parameter, which has a
+-- session's number, is its seventh and eighth.
 abbrev pub said_as : ℕ → ℕ → ℕ → Said
 said_as kind control session =
     if kind == kind_number InitializeResponse then Joins session

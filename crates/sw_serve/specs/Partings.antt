@@ -8,7 +8,7 @@ use Rattle.sw_serve.specs.declared.log.Remark.{Remark}
 use Rattle.sw_serve.specs.declared.log.Remark.TheVariants.{NoInput, Aborted}
 use Rattle.sw_serve.specs.declared.log.Parting.TheVariants as parting
 
--- by the FatalError that was told: code 4 says that there are too many clients
+-- by the FatalError that was sent: code 4 says that there are too many clients
 abbrev pub after_fatal : Option ℕ → Parting
 after_fatal None = parting.Fault
 after_fatal (Some code) = if code == 4 then parting.Full else parting.FatalError code
@@ -24,7 +24,7 @@ parting_of (Err NoMemory) fatal true = parting.NoMemory
 parting_of (Err NoMemory) fatal false = parting.Full
 parting_of (Err ReadBound) fatal heard = parting.ReadBound
 
--- what answers an operator, or says why the server ends, is told also where nothing else is
+-- what answers an operator, or says why the server ends: the server writes it also without a log
 abbrev pub is_answer : Remark → Bool
 is_answer NoInput = true
 is_answer Aborted = true

@@ -54,13 +54,13 @@ abbrev pub TakesCards : Panel → List PlacedCard → Panel → Type 0
 TakesCards p [] q = q ≡ p
 TakesCards p (o ∷ more) q = (mid : Panel) × Takes p o mid × TakesCards mid more q
 
--- each of these cards stands in the slot that it was offered to, and no other slot has a card
+-- each of these cards is in the slot that it was offered to, and no other slot has a card
 pub record Holds (rack : Accounts) (cards : List PlacedCard) : Type 0 where
   pub each : All (λ o. slot_at rack o.slot ≡ Some o.card) cards
   pub only : (slot : ℕ) (card : Account) → slot_at rack slot ≡ Some card → Contains cards (placed slot card)
 
--- The mainframe takes the cards that stand before one in the list, and refuses that one, for this cause. What stands
--- behind it is not offered.
+-- The mainframe takes the cards before one in the list, and refuses that one, for this cause. The cards behind it are
+-- not offered.
 pub record RefusesCard (p : Panel) (cards : List PlacedCard) (slot : ℕ) (why : InstallRefusal) : Type 0 where
   pub before : List PlacedCard
   pub card : Account

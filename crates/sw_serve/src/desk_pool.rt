@@ -37,6 +37,7 @@ impl<H: Mainframe, R: Relay, M: Meter, G: Gate + Drop, W: Wait + Clock + Copy + 
         shared: Arc<Shared<H, R, M, G>, Global>,
     ) -> Result<Self, AllocError> {
         let Some(own) = SharedDesk::open(rt, &shared) else {
+            drop(shared);
             return Err(AllocError);
         };
         Ok(DeskPool {
@@ -47,7 +48,7 @@ impl<H: Mainframe, R: Relay, M: Meter, G: Gate + Drop, W: Wait + Clock + Copy + 
         })
     }
 
-    /// Ends the scan that runs and opens every relay, whoever has a lock.
+    /// Ends the scan that runs and opens every relay, whichever session has a lock.
     pub fn open_all(&self) {
         let mut guard = self.own.lock(&self.rt);
         if let Some(desk) = &mut *guard {
@@ -55,29 +56,37 @@ impl<H: Mainframe, R: Relay, M: Meter, G: Gate + Drop, W: Wait + Clock + Copy + 
         }
     }
 
-    /// A desk that no thread has, or a new one. None where no memory is to be had.
+    /// A desk that no thread has, or a new one. None where there is no memory.
     pub fn desk(&self) -> Option<SharedDesk<H, R, M, G, W>> {
         let free = self.free.lock(&self.rt).pop();
-        if free.is_some() {
-            return free;
+        match free {
+            Some(desk) => Some(desk),
+            None => SharedDesk::open(self.rt, &self.shared),
         }
-        SharedDesk::open(self.rt, &self.shared)
     }
 
-    /// Takes a desk back, for the next thread. Where there is no memory it is lost, which the end tells.
+    /// Takes a desk back, for the next thread. Where there is no memory it loses the desk, which the end reports.
     pub fn give_back(&self, desk: SharedDesk<H, R, M, G, W>) {
         let mut guard = self.free.lock(&self.rt);
         let free = &mut *guard;
-        let _ = free.push(desk);
+        drop(free.push(desk));
     }
 
-    /// No connection is served that comes from now on, and each session ends after the message that it is in; or all
-    /// connections end at once.
+    /// Takes the desk back that a thread left, if it left one.
+    pub fn take_back(&self, left: Option<SharedDesk<H, R, M, G, W>>) {
+        match left {
+            Some(desk) => self.give_back(desk),
+            None => {}
+        }
+    }
+
+    /// Serves no connection that comes from now on, and ends each session after its current message; or ends all
+    /// connections at once.
     pub fn end_lines(&self, is_at_once: bool) {
         self.shared.end_lines(&self.rt, is_at_once);
     }
 
-    /// Nobody has to wait any more, and workers end.
+    /// From now on no thread has to wait, and workers end.
     pub fn end_work(&self) {
         self.shared.end_work(&self.rt);
     }

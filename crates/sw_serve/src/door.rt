@@ -33,8 +33,8 @@ enum Coming {
 }
 
 /// A listener, and the number of connections that came to it, failed ones too. Where it has an input, it takes no
-/// connection after that has ended or failed; a line `abort` on it is an order, any other is ignored. A log has what
-/// comes and goes.
+/// connection after that has ended or failed. A line `abort` on the input is an order; any other is ignored. The log
+/// has what comes and leaves.
 #[derive(Drop)]
 pub struct Door<'a, W: Wait + Clock + Copy + Drop, I: Read + AsRawFd + Drop, L: Log + Copy + Drop> {
     rt: W,
@@ -43,7 +43,8 @@ pub struct Door<'a, W: Wait + Clock + Copy + Drop, I: Read + AsRawFd + Drop, L: 
     input: Option<I>,
     orders: Orders,
     log: L,
-    /// An abort was asked for, and is not in the log yet: it is done by the time the next connection is asked for.
+    /// An operator has typed `abort`, and the log doesn't have it yet: it is done by the time the next connection is
+    /// asked for.
     is_aborting: bool,
     /// It has not waited yet.
     is_new: bool,

@@ -1,4 +1,4 @@
-//! Cards that tell a log where a call of them fails.
+//! Cards that report to a log where a call of them fails.
 
 ghost use Rattle.std.specs.Prelude.{◌≡◌, ◌++◌, ◌∷◌, [], List, IfOk};
 ghost use Rattle.sw_serve.specs.SlotCards.{cards_seen, own_seen, relay_seen, meter_seen};
@@ -9,7 +9,7 @@ use std::alloc::{AllocError, Global};
 use sw_base::Reading;
 use sw_card::{Board, CardFault, Meter, Relay};
 
-/// A card that tells a log where a call of it fails.
+/// A card that reports to a log where a call of it fails.
 #[derive(Drop)]
 pub struct Telling<C: Board, L: Log + Drop> {
     card: C,
@@ -18,7 +18,7 @@ pub struct Telling<C: Board, L: Log + Drop> {
 }
 
 impl<C: Board, L: Log + Drop> Telling<C, L> {
-    /// Tells that a call has failed.
+    /// Reports that a call has failed.
     fn tell(&self) {
         self.log.tell(Remark::CardFailed(self.slot));
     }
@@ -98,7 +98,7 @@ impl<M: Meter, L: Log + Drop> Meter for Telling<M, L> {
     }
 }
 
-/// The card as one that tells a log.
+/// The card, which reports to a log.
 fn with_log<R: Relay, M: Meter, L: Log + Drop>(
     own: OwnCard<R, M>,
     slot: u8,
@@ -116,7 +116,7 @@ fn with_log<R: Relay, M: Meter, L: Log + Drop>(
     }
 }
 
-/// The same cards, which tell a log where a call of them fails.
+/// The same cards, which report to a log where a call of them fails.
 pub fn tell_failures<R: Relay, M: Meter, L: Log + Copy + Drop>(
     alloc: Global,
     cards: Vec<SlotCard<R, M>>,
@@ -135,7 +135,7 @@ pub fn tell_failures<R: Relay, M: Meter, L: Log + Copy + Drop>(
     told
 }
 
-/// The cards so far and one more, which tells a log, unless there was no memory.
+/// The cards so far and one more, which reports to a log, unless there was no memory.
 fn with_card<R: Relay, M: Meter, L: Log + Drop>(
     told: Result<Vec<SlotCard<Telling<R, L>, Telling<M, L>>>, AllocError>,
     placed: SlotCard<R, M>,

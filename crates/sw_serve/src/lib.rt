@@ -1,18 +1,17 @@
 //! A server of sessions over any port and any cards.
 //!
-//! Who has cards of their own makes a list of them (`SlotCard`), each with the slot that it is for. `desk_for_one`
-//! fits them into a mainframe for one session without a network; `serve_cards` serves whoever comes to a port (`Port`),
-//! each connection by a thread of its own, until so many have come or the port has ended, and then closes down. Where
-//! the mainframe refuses a card both tell which, and why (`FitError`), and serve nobody.
+//! A caller with cards of its own makes a list of them (`SlotCard`), each with the slot that it is for. `desk_for_one`
+//! fits them into a mainframe for one session without a network. `serve_cards` serves the connections that come to a
+//! port (`Port`), each by a thread of its own, until `limit` have come or the port has ended, and then closes down.
+//! Where the mainframe refuses a card, both name it and the cause (`FitError`), and serve no client.
 //!
-//! The crate's contract is that of `serve_cards`: exactly so many connections are taken, or fewer where the port has
-//! ended; the mainframe took the cards of the list, each once and in its order, so that each stood in its slot and
-//! nothing else in any; and at the end these come out of their slots, each as it stood there at the end of the
-//! history, but with every relay open (`ClosesDown`). Where a card is refused, the first such is named with the
-//! mainframe's own cause, and no connection is taken. What the thread of a connection does is said by
-//! `serving::attend`.
+//! The crate's contract is that of `serve_cards`. It takes exactly `limit` connections, or fewer where the port has
+//! ended. The mainframe took the cards of the list, each once and in its order, so that each was in its slot and
+//! nothing else in any. At the end these come out of their slots, each as it was there at the end of the history, but
+//! with every relay open (`ClosesDown`). Where the mainframe refuses a card, the error names the first such with the
+//! mainframe's own cause, and no connection is taken. `serving::attend` says what the thread of a connection does.
 //!
-//! Nothing is promised of what a network carries, of when a thread goes on, nor of what is told to a log.
+//! No contract says what a network carries, when a thread continues, or what a log gets.
 #![tactic(auto)]
 
 mod desk_pool;

@@ -70,7 +70,7 @@ impl Log for Silent {
 /// The code of FatalError where there are too many clients.
 const TOO_MANY_CLIENTS: u8 = 4;
 
-/// How a connection has ended that was served with this result. `fatal`: the code of the FatalError that was sent;
+/// How a connection that was served with this result has ended. `fatal`: the code of the FatalError that was sent;
 /// `is_heard`: something was read.
 pub fn parting_of(served: Result<(), ServeFault>, fatal: Option<u8>, is_heard: bool) -> Parting
     ensures { result ≡ parting_of served fatal is_heard }

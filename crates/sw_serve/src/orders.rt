@@ -36,7 +36,7 @@ impl Orders {
         }
     }
 
-    /// Takes the next byte, and tells whether it ends a line `abort`.
+    /// Takes the next byte, and gives whether it ends a line `abort`.
     pub fn take(&mut self, byte: u8) -> bool
         ensures line { self.new ≡ line_after self.old byte }
         ensures result { (result ≡ true) ↔ IsAbortLine self.old byte }

@@ -3,7 +3,7 @@
 use crate::log::Log;
 use crate::visitor::Visitor;
 
-/// What comes of a wait for a connection.
+/// How a wait for a connection ends.
 #[derive(Drop)]
 pub enum Arrival<C: Drop> {
     /// One came.
@@ -21,7 +21,7 @@ pub trait Port {
     ghost use Rattle.std.specs.Prelude.{◌≡◌, ◌+◌, ◌<◌, ◌^◌, ℕ};
     ghost use Rattle.sw_serve.specs.Arrivals.{count_after};
 
-    /// What is told of the connections.
+    /// The log of the connections.
     type Book: Log + Copy + Drop + Send + 'static;
 
     /// How many connections have come, those among them that failed.
@@ -30,7 +30,7 @@ pub trait Port {
     /// No further connection is to be taken.
     ghost ended: { Self → Type 0 };
 
-    /// Waits for the next connection, or the end.
+    /// Waits for the next connection, an abort, or the end.
     fn accept(&mut self) -> Arrival<Visitor<Self::Book>>
         requires { taken self.old + 1 < 2 ^ 32 }
         ensures taken { taken self.new ≡ count_after result (taken self.old) }

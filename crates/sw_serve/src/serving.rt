@@ -1,6 +1,6 @@
 //! Connections, each served by a thread of its own.
 
-ghost use Rattle.std.specs.Prelude.{◌≡◌, ◌≢◌, ◌≤◌, ◌+◌, ◌<◌, ◌^◌, false, All, IfOk, IfErr, OnOk, IfSome};
+ghost use Rattle.std.specs.Prelude.{◌≡◌, ◌≢◌, ◌≤◌, ◌+◌, ◌<◌, ◌^◌, true, false, All, IfOk, IfErr, OnOk, IfSome};
 ghost use Rattle.sw_cage.specs.Accounts.{accounts_of};
 ghost use Rattle.sw_core.specs.Opening.{IsFresh};
 ghost use Rattle.sw_core.specs.Panel.{opening};
@@ -35,12 +35,13 @@ use sw_workers::{
     WorkReceivers, close_down, run_card_worker, run_session, run_timer_worker,
 };
 
-/// Takes so many connections, or fewer where the port ends, each served by a thread of its own over these cards, and
-/// then closes down. A connection that fails counts; one for which there is no memory or no thread is closed. Once the
-/// port has ended the scan that runs is ended and every relay opened, each session ends after the message that it is in,
-/// and one that goes on for 0.7 seconds is cut off. Once all have ended, a scan that they began meanwhile is ended too.
+/// Takes `limit` connections, or fewer where the port ends, each served by a thread of its own over these cards, and
+/// then closes down. A connection that fails counts. The server closes a connection for which there is no memory or no
+/// thread. Once the port has ended, the server ends the scan that runs and opens every relay. Each session ends after
+/// its current message; one that continues for 0.7 seconds is cut off. Once all have ended, the server also ends a scan
+/// that they began meanwhile.
 ///
-/// Where the mainframe refuses a card, the first such is told, and no connection is taken.
+/// Where the mainframe refuses a card, the error names the first such, and no connection is taken.
 pub fn serve_cards<
     R: Relay + Send + 'static,
     M: Meter + Send + 'static,
@@ -75,7 +76,7 @@ pub fn serve_cards<
     Ok(closed)
 }
 
-/// Takes so many connections over a mainframe that has a name, or fewer where the port ends, and then closes it down.
+/// Takes `limit` connections over a mainframe that has a name, or fewer where the port ends, and then closes it down.
 pub fn serve_over<
     H: Mainframe + Send + Sync + 'static,
     R: Relay + Send + 'static,
@@ -104,30 +105,119 @@ pub fn serve_over<
     ensures taken { OnOk result (TakesUpTo limit (P.taken port.old) (P.taken port.new) (P.ended port.new)) }
 {
     let (shared, receivers) = Shared::<H, R, M, G>::new(alloc, opening, gate)?;
-    let shared = Arc::new(alloc, shared)?;
-    let pool = DeskPool::new(rt, alloc, Arc::try_clone(&shared)?)?;
-    let pool = Arc::new(alloc, pool)?;
-    let mut workers = ThreadPool::new(alloc)?;
-    let mut sessions = ThreadPool::new(alloc)?;
-    start_workers(rt, alloc, &pool, &mut workers, receivers);
-    if serve_each(rt, alloc, &pool, &mut sessions, port, limit) {
-        pool.open_all();
-        end_sessions(&rt, &pool, &mut sessions);
+    let Ok((shared, pool)) = with_desks(rt, alloc, shared) else {
+        drop(receivers);
+        return Err(AllocError);
+    };
+    if serve_pool(rt, alloc, &pool, receivers, port, limit) {
+        let desks = pool.take_desks(alloc);
+        drop(pool);
+        closed_down(&rt, alloc, shared, desks)
+    } else {
+        drop(pool);
+        drop(shared);
+        Err(AllocError)
     }
-    join_all(&rt, &pool, sessions);
+}
+
+/// Takes `limit` connections, or fewer where the port ends, each served by a desk of this pool, and then ends every
+/// session and every worker, with every relay open. Gives false where there is no memory for the threads; then it takes
+/// no connection.
+fn serve_pool<
+    H: Mainframe + Send + Sync + 'static,
+    R: Relay + Send + 'static,
+    M: Meter + Send + 'static,
+    G: Gate + Drop + Send + Sync + 'static,
+    W: Threads + Wait + Clock + Copy + Drop + Send + Sync + 'static,
+    P: Port,
+>(
+    rt: W,
+    alloc: Global,
+    pool: &Arc<DeskPool<H, R, M, G, W>, Global>,
+    receivers: WorkReceivers<M>,
+    port: &mut P,
+    limit: u32,
+) -> bool
+    requires { P.taken port.old + limit < 2 ^ 32 }
+    ensures taken { result ≡ true → TakesUpTo limit (P.taken port.old) (P.taken port.new) (P.ended port.new) }
+    ensures unserved { result ≡ false → port.new ≡ port.old }
+{
+    let Ok((mut workers, mut sessions)) = ThreadPool::two(alloc) else {
+        drop(receivers);
+        return false;
+    };
+    start_workers(rt, alloc, pool, &mut workers, receivers);
+    if serve_each(rt, alloc, pool, &mut sessions, port, limit) {
+        pool.open_all();
+        end_sessions(&rt, &**pool, &mut sessions);
+    }
+    join_all(&rt, &**pool, sessions);
     pool.open_all();
     pool.end_work();
-    join_all(&rt, &pool, workers);
-    match close_down(&rt, alloc, shared, pool.take_desks(alloc)) {
+    join_all(&rt, &**pool, workers);
+    true
+}
+
+/// Closes down a mainframe whose desks these are. Where a desk is missing, or there is no memory, it lets all of them
+/// go.
+fn closed_down<H: Mainframe, R: Relay, M: Meter, G: Gate + Drop, W: Wait + Clock + Copy + Drop>(
+    rt: &W,
+    alloc: Global,
+    shared: Arc<Shared<H, R, M, G>, Global>,
+    desks: Vec<SharedDesk<H, R, M, G, W>>,
+) -> Result<Closed<R, M>, AllocError>
+    ensures events { IfOk result (λ closed. H.first.events ≤ closed.events) }
+    ensures cards { IfOk result (λ closed.
+        IsClosedDown H.first closed.events (accounts_of closed.cards.items)) }
+    ensures open { IfOk result (λ closed.
+        All (λ slot. IfSome slot (λ card. IsOpen card.1)) closed.cards.items) }
+{
+    match close_down(rt, alloc, shared, desks) {
         Ok(closed) => Ok(closed),
-        Err(_) => Err(AllocError),
+        Err(left) => {
+            drop(left);
+            Err(AllocError)
+        }
     }
+}
+
+/// A mainframe for many threads, and the pool of its desks.
+fn with_desks<H: Mainframe, R: Relay, M: Meter, G: Gate + Drop, W: Wait + Clock + Copy + Drop>(
+    rt: W,
+    alloc: Global,
+    shared: Shared<H, R, M, G>,
+) -> Result<
+    (
+        Arc<Shared<H, R, M, G>, Global>,
+        Arc<DeskPool<H, R, M, G, W>, Global>,
+    ),
+    AllocError,
+> {
+    let shared = Arc::new(alloc, shared)?;
+    match pool_of(rt, alloc, &shared) {
+        Ok(pool) => Ok((shared, pool)),
+        Err(error) => {
+            drop(shared);
+            Err(error)
+        }
+    }
+}
+
+/// The pool of a mainframe's desks.
+fn pool_of<H: Mainframe, R: Relay, M: Meter, G: Gate + Drop, W: Wait + Clock + Copy + Drop>(
+    rt: W,
+    alloc: Global,
+    shared: &Arc<Shared<H, R, M, G>, Global>,
+) -> Result<Arc<DeskPool<H, R, M, G, W>, Global>, AllocError> {
+    let pool = DeskPool::new(rt, alloc, Arc::try_clone(shared)?)?;
+    Ok(Arc::new(alloc, pool)?)
 }
 
 /// What a thread gives back.
 type Left<H, R, M, G, W> = Option<SharedDesk<H, R, M, G, W>>;
 
-/// Starts a thread for measurements and one for pauses. Where there is none, who has such work carries it out.
+/// Starts a thread for measurements and one for pauses. Where there is none, the thread that has such work carries it
+/// out.
 fn start_workers<
     H: Mainframe + Send + Sync + 'static,
     R: Relay + Send + 'static,
@@ -142,11 +232,17 @@ fn start_workers<
     receivers: WorkReceivers<M>,
 ) {
     let WorkReceivers { jobs, pauses } = receivers;
-    if let Ok(theirs) = Arc::try_clone(pool) {
-        workers.start(rt, 0, move || measure(theirs, jobs));
+    match Arc::try_clone(pool) {
+        Ok(theirs) => {
+            workers.start(rt, 0, move || measure(theirs, jobs));
+        }
+        Err(_) => drop(jobs),
     }
-    if let Ok(theirs) = Arc::try_clone(pool) {
-        workers.start(rt, 1, move || wait_out(theirs, pauses));
+    match Arc::try_clone(pool) {
+        Ok(theirs) => {
+            workers.start(rt, 1, move || wait_out(theirs, pauses));
+        }
+        Err(_) => drop(pauses),
     }
 }
 
@@ -155,8 +251,15 @@ fn measure<H: Mainframe, R: Relay, M: Meter, G: Gate + Drop, W: Wait + Clock + C
     pool: Arc<DeskPool<H, R, M, G, W>, Global>,
     jobs: Receiver<Job<M>>,
 ) -> Left<H, R, M, G, W> {
-    let desk = pool.desk()?;
-    Some(run_card_worker(desk, jobs))
+    let desk = pool.desk();
+    drop(pool);
+    match desk {
+        Some(desk) => Some(run_card_worker(desk, jobs)),
+        None => {
+            drop(jobs);
+            None
+        }
+    }
 }
 
 /// What the thread for pauses does.
@@ -164,12 +267,19 @@ fn wait_out<H: Mainframe, R: Relay, M: Meter, G: Gate + Drop, W: Wait + Clock + 
     pool: Arc<DeskPool<H, R, M, G, W>, Global>,
     pauses: Receiver<Pause>,
 ) -> Left<H, R, M, G, W> {
-    let desk = pool.desk()?;
-    Some(run_timer_worker(desk, pauses))
+    let desk = pool.desk();
+    drop(pool);
+    match desk {
+        Some(desk) => Some(run_timer_worker(desk, pauses)),
+        None => {
+            drop(pauses);
+            None
+        }
+    }
 }
 
-/// Takes so many connections, and starts a thread for each, or fewer where the port ends, and tells whether it has
-/// ended. Threads that ended are joined before the next one starts, so that their desks serve again.
+/// Takes `limit` connections, or fewer where the port ends, and starts a thread for each. It gives whether the port has
+/// ended. It joins the threads that ended before it starts the next one, so that their desks serve again.
 fn serve_each<
     H: Mainframe + Send + Sync + 'static,
     R: Relay + Send + 'static,
@@ -203,7 +313,7 @@ fn serve_each<
     false
 }
 
-/// What comes to the port next but aborts, each of which is done at once.
+/// The next arrival at the port but aborts. It carries each abort out at once.
 fn next_arrival<
     H: Mainframe,
     R: Relay,
@@ -226,12 +336,12 @@ fn next_arrival<
     unreachable!()
 }
 
-/// How often it is looked whether all sessions have ended, and how many milliseconds lie between.
+/// How often the server looks whether all sessions have ended, and how many milliseconds lie between.
 const LOOKS: u32 = 70;
 
 const LOOK_MS: u64 = 10;
 
-/// Ends the sessions: each after the message that it is in, and after 0.7 seconds at once.
+/// Ends the sessions: each after its current message, and after 0.7 seconds at once.
 fn end_sessions<
     H: Mainframe + Send + Sync + 'static,
     R: Relay + Send + 'static,
@@ -250,7 +360,7 @@ fn end_sessions<
     pool.end_lines(true);
 }
 
-/// Starts a thread for a connection. Where there is no memory or no thread to be had, the connection is closed.
+/// Starts a thread for a connection. Where there is no memory or no thread, it closes the connection.
 fn welcome<
     H: Mainframe + Send + Sync + 'static,
     R: Relay + Send + 'static,
@@ -266,13 +376,15 @@ fn welcome<
     number: u32,
     connection: Visitor<L>,
 ) {
-    if let Ok(theirs) = Arc::try_clone(pool) {
-        sessions.start(
-            rt,
-            number,
-            move || desk_of::<H, R, M, G, W, L>(attend(alloc, theirs, connection)),
-        );
-    }
+    let Ok(theirs) = Arc::try_clone(pool) else {
+        drop(connection);
+        return;
+    };
+    sessions.start(
+        rt,
+        number,
+        move || desk_of::<H, R, M, G, W, L>(attend(alloc, theirs, connection)),
+    );
 }
 
 /// What the thread of a connection does: by a desk from the pool it serves the connection, from its first byte on.
@@ -296,11 +408,18 @@ fn attend<
         (connection_seen ended.desk (left_ahead C.In.remaining ended.reader) (C.In.pauses ended.reader.reader)
         (C.Out.contents ended.writer)) ended.result) }
 {
-    let desk = pool.desk()?;
-    Some(run_session(connection, desk, alloc))
+    let desk = pool.desk();
+    drop(pool);
+    match desk {
+        Some(desk) => Some(run_session(connection, desk, alloc)),
+        None => {
+            drop(connection);
+            None
+        }
+    }
 }
 
-/// The desk of a connection that was served, which is told its end.
+/// The desk of a connection that was served. It reports to the connection's log that the connection has left.
 fn desk_of<
     H: Mainframe,
     R: Relay,
@@ -311,16 +430,19 @@ fn desk_of<
 >(served: Option<Ended<SharedDesk<H, R, M, G, W>, Heard, Told<L>, Line>>) -> Left<H, R, M, G, W> {
     let Ended {
         desk,
-        reader: _,
+        reader,
         writer,
-        aside: _,
+        aside,
         result,
     } = served?;
+    drop(reader);
+    drop(aside);
     writer.tell_end(result);
+    drop(writer);
     Some(desk)
 }
 
-/// Joins the threads that told of their end.
+/// Joins the threads that reported their end.
 fn join_ended<
     H: Mainframe + Send + Sync + 'static,
     R: Relay + Send + 'static,
@@ -329,9 +451,7 @@ fn join_ended<
     W: Threads + Wait + Clock + Copy + Drop + Send + Sync + 'static,
 >(rt: &W, pool: &DeskPool<H, R, M, G, W>, threads: &mut ThreadPool<Left<H, R, M, G, W>>) {
     while let Some(left) = threads.join_ended(rt) {
-        if let Some(desk) = left {
-            pool.give_back(desk);
-        }
+        pool.take_back(left);
     }
 }
 
@@ -344,8 +464,6 @@ fn join_all<
     W: Threads + Wait + Clock + Copy + Drop + Send + Sync + 'static,
 >(rt: &W, pool: &DeskPool<H, R, M, G, W>, mut threads: ThreadPool<Left<H, R, M, G, W>>) {
     while let Some(left) = threads.join_any(rt) {
-        if let Some(desk) = left {
-            pool.give_back(desk);
-        }
+        pool.take_back(left);
     }
 }

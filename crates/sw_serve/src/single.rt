@@ -48,6 +48,7 @@ fn set_up<R: Relay, M: Meter>(
     let mut core = Core::new(alloc)?;
     let sid = join(alloc, &mut core);
     if let Err((slot, why)) = install_all(alloc, &mut core, cards) {
+        drop(core);
         return Err(FitError::Refused { slot, why });
     }
     Ok((core, sid))

@@ -15,7 +15,7 @@ use sw_cage::InstallRefusal;
 use sw_card::{Card, Meter, Relay};
 use sw_core::{Answer, Ask, Core, runs_go_on};
 
-/// A card of one's own, of either kind.
+/// A caller's own card, of either kind.
 #[derive(Drop)]
 pub enum OwnCard<R: Relay, M: Meter> {
     Relays(R),
@@ -64,7 +64,7 @@ fn card_of<R: Relay, M: Meter>(own: OwnCard<R, M>) -> Card<R, M>
     }
 }
 
-/// Puts a card into a mainframe, or tells why it is refused. A refused card is let go.
+/// Puts a card into a mainframe, or gives why that refuses it. It drops a refused card.
 fn install_one<R: Relay, M: Meter>(
     alloc: Global,
     core: &mut Core<R, M>,
@@ -125,6 +125,7 @@ pub fn fit<R: Relay, M: Meter>(
     runs_go_on();
     let mut core = Core::new(alloc)?;
     if let Err((slot, why)) = install_all(alloc, &mut core, cards) {
+        drop(core);
         return Err(FitError::Refused { slot, why });
     }
     Ok(core)

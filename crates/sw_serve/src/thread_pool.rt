@@ -16,7 +16,7 @@ struct Member<T: Send + Drop + 'static> {
     handle: JoinHandle<T>,
 }
 
-/// Threads that were not joined yet. Each tells its number when its work is done, since a handle can't be asked.
+/// Threads that were not joined yet. Each reports its number when its work is done, since a handle can't be asked.
 #[derive(Drop)]
 pub struct ThreadPool<T: Send + Drop + 'static> {
     members: Vec<Member<T>>,
@@ -25,7 +25,7 @@ pub struct ThreadPool<T: Send + Drop + 'static> {
 }
 
 impl<T: Send + Drop + 'static> ThreadPool<T> {
-    /// One without a thread.
+    /// A pool without a thread.
     pub fn new(alloc: Global) -> Result<Self, AllocError>
         ensures { IfOk result (λ threads. vec_len threads.members ≡ 0) }
     {
@@ -38,7 +38,16 @@ impl<T: Send + Drop + 'static> ThreadPool<T> {
         })
     }
 
-    /// Starts a thread for this work. It does not where there is no memory, or no thread is to be had.
+    /// Two pools without a thread.
+    pub fn two(alloc: Global) -> Result<(Self, Self), AllocError>
+        ensures { IfOk result (λ threads. (vec_len threads.0.members ≡ 0) × (vec_len threads.1.members ≡ 0)) }
+    {
+        let first = ThreadPool::new(alloc)?;
+        let second = ThreadPool::new(alloc)?;
+        Ok((first, second))
+    }
+
+    /// Starts a thread for this work. It does not where there is no memory or no thread.
     pub fn start<
         W: Threads + Wait + Copy + Drop + Send + 'static,
         F: FnOnce() -> T + Send + Drop + 'static,
@@ -67,7 +76,7 @@ impl<T: Send + Drop + 'static> ThreadPool<T> {
         true
     }
 
-    /// Joins a thread that told of its end, and gives what its work gave. None where no thread did.
+    /// Joins a thread that reported its end, and gives what its work gave. None where no thread did.
     pub fn join_ended<W: Threads + Wait>(&mut self, rt: &W) -> Option<T>
         ensures some { IfSome result (λ _. vec_len self.old.members ≡ vec_len self.new.members + 1) }
         ensures none { IfNone result (vec_len self.new.members ≡ vec_len self.old.members) }

@@ -1,4 +1,4 @@
-//! A connection whose coming and leaving are told to a log.
+//! A connection that reports its coming and leaving to a log.
 
 ghost use Rattle.std.specs.Prelude.{◌≡◌};
 ghost use Rattle.sw_serve.specs.Heard.{said_by, attached_by};
@@ -12,7 +12,7 @@ use sw_hislip::Kind;
 use sw_session::ServeFault;
 use sw_workers::{Connection, Line, Tcp};
 
-/// How many bytes of a message tell of what it does: its header's.
+/// How many bytes of a message say what it does: its header's.
 const HEADER: usize = 16;
 
 /// What both ways of a connection know of it.
@@ -54,7 +54,7 @@ impl<L: Log + Drop> Visitor<L> {
 }
 
 /// What a message says of its connection.
-#[derive(Clone, Copy, Debug, PartialEq, Eq, Drop)]
+#[derive(Clone, Copy, Drop)]
 pub enum Said {
     /// It joins as this session.
     Joins(u16),
@@ -84,7 +84,7 @@ fn said_by(bytes: &[u8]) -> Said
     }
 }
 
-/// The session that a connection asks for whose first message begins so.
+/// The session that a connection asks for, where its first message begins so.
 fn attached_by(bytes: &[u8]) -> Option<u16>
     ensures { result ≡ attached_by bytes.now }
 {
@@ -163,7 +163,7 @@ impl Read for Heard {
     }
 }
 
-/// What a connection writes to. What is written from one handing on to the next is one message.
+/// What a connection writes to. What is written from one flush to the next is one message.
 #[derive(Drop)]
 pub struct Told<L: Log + Drop> {
     writer: Line,
@@ -171,7 +171,7 @@ pub struct Told<L: Log + Drop> {
     number: u32,
     known: Arc<Known, Global>,
     fatal: Option<u8>,
-    /// A message was begun, and not handed on.
+    /// A message was begun, and not flushed.
     is_begun: bool,
 }
 
@@ -189,7 +189,7 @@ impl<L: Log + Drop> Told<L> {
         }
     }
 
-    /// Tells that the connection has left, which was served so.
+    /// Reports that the connection has left, which was served so.
     pub fn tell_end(&self, served: Result<(), ServeFault>) {
         let is_heard = self.known.is_heard.load(Ordering::SeqCst);
         let parting = parting_of(served, self.fatal, is_heard);

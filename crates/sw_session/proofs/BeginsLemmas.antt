@@ -5,6 +5,8 @@ use Rattle.sw_base.specs.declared.error.ScpiError.TheVariants.{OutOfMemory}
 use Rattle.sw_lex.specs.declared.command.Command.{Command}
 use Rattle.sw_lex.specs.declared.command.Plain.{Plain}
 use Rattle.sw_lex.specs.declared.command.Channels.{Channels}
+use Rattle.sw_base.specs.declared.terms.StatusGroup.{StatusGroup}
+use Rattle.sw_lex.specs.declared.command.GroupQuery.{GroupQuery}
 use Rattle.sw_lex.specs.declared.command.SlotQuery.{SlotQuery}
 use Rattle.sw_core.specs.Action.{Effect, IsOfMacros, action_of}
 use Rattle.sw_macro.specs.Table.{Table}
@@ -50,6 +52,11 @@ module _ {D : Type 0} (passes : D → Entry → D → Type 0) (sid : Sid) where
   asked (Command.Macro ask) answered macros t final rest own s = absurd (cc (own))
   asked (Command.ReadOut read) answered macros t final rest own s = (inl s, refl)
   asked (Command.Channels Channels.Close chans) answered macros t final rest own s = (s, refl)
+  asked (Command.GroupQuery GroupQuery.Condition StatusGroup.Operation) answered macros t final rest own s = (s, refl)
+  asked (Command.GroupQuery GroupQuery.Condition StatusGroup.Questionable) answered macros t final rest own s = (s, refl)
+  asked (Command.GroupQuery GroupQuery.Enable group) answered macros t final rest own s = (s, refl)
+  asked (Command.GroupQuery GroupQuery.PositiveTransition group) answered macros t final rest own s = (s, refl)
+  asked (Command.GroupQuery GroupQuery.NegativeTransition group) answered macros t final rest own s = (s, refl)
   asked (Command.SlotQuery SlotQuery.Kind slot) answered macros t final rest own s = (s, refl)
   asked (Command.SlotQuery SlotQuery.Groups slot) answered macros t final rest own s = (s, refl)
   asked (Command.SlotQuery SlotQuery.State slot) answered macros t final rest own s = (s, refl)

@@ -1,5 +1,5 @@
 -- A talk over a mainframe leaves no choice but what is measured and what comes of the cards, where memory suffices.
-use Rattle.std.proofs.Common.{◌≡◌, ℕ, zero, suc, Bool, List, [], ◌∷◌, ◌++◌, replicate, Option, Some, None, Result, Ok, Err, refl, ap, sym, ◌∙◌, subst, arith}
+use Rattle.std.proofs.Common.{◌≡◌, ℕ, zero, suc, Bool, false, List, [], ◌∷◌, ◌++◌, replicate, Option, Some, None, Result, Ok, Err, refl, ap, sym, ◌∙◌, subst, arith}
 use Rattle.std.specs.Io.BufRead.{strip_last}
 use Rattle.std.proofs.lemmas.List.{append_assoc}
 use Rattle.sw_base.specs.declared.reading.Reading.{Reading}
@@ -11,8 +11,8 @@ use Rattle.sw_core.specs.declared.ask.Sid.{Sid}
 use Rattle.sw_core.specs.declared.ask.SessionAsk.{SessionAsk}
 use Rattle.sw_core.specs.declared.ask.SessionAnswer.{SessionAnswer}
 use Rattle.sw_core.specs.Panel.{Panel}
-use Rattle.sw_core.specs.Run.{StepIsDetermined, IsPlain, KeepsKey, FailuresAfter, failures_after, says_sure}
-use Rattle.sw_core.specs.SlotTexts.{tells_surety}
+use Rattle.sw_core.specs.Run.{StepIsDetermined, IsPlain, KeepsKey, FailuresAfter, failures_after}
+use Rattle.sw_core.specs.LeftOpen.{LeftOpen, Determined, answer_leaves, leaves_open}
 use Rattle.sw_core.specs.Step.{Step}
 use Rattle.sw_core.specs.Seen.{WorkSeen, Measures, Pauses, AskSeen, AskSession, AskFinished, AnswerSeen, SaysSession}
 use Rattle.sw_macro.specs.Table.{Table}
@@ -96,11 +96,11 @@ tail-same o o' os os' is = cc (is)
 made-same : (o o' : Result Reading CardFault) → Measured o ≡ Measured o' → o ≡ o'
 made-same o o' is = cc (is)
 
-failures-same : (t t' : FailuresAfter) (b b' : Bool) → Cards t b ≡ Cards t' b' → t ≡ t'
+failures-same : (t t' : FailuresAfter) (b b' : LeftOpen) → Cards t b ≡ Cards t' b' → t ≡ t'
 failures-same t t' b b' is = cc (is)
 
-sure-same : (t t' : FailuresAfter) (b b' : Bool) → Cards t b ≡ Cards t' b' → b ≡ b'
-sure-same t t' b b' is = cc (is)
+left-same : (t t' : FailuresAfter) (b b' : LeftOpen) → Cards t b ≡ Cards t' b' → b ≡ b'
+left-same t t' b b' is = cc (is)
 
 -- what is told of one piece
 told-same : (piece : WorkSeen) (a a' : AskSeen) (os os' : List Outcome) → TellsOfPiece piece a → TellsOfPiece piece a' → measured a ++ os ≡ measured a'
@@ -119,14 +119,17 @@ told-same (Measures job) a a' os os' (done, ran, is) (done', ran', is') same =
 asked-same : StepIsDetermined → (d d' : DeskSeen) (ask ask' : SessionAsk) (r r' : SessionAnswer) (q q' : DeskSeen) → IsSameDesk d d' → ask ≡ ask'
     → TellsPlainly r
     → TellsPlainly r' → KeepsKeys ask r → KeepsKeys ask' r' → (a : AnswersAsk [] d ask r q) → (a' : AnswersAsk [] d' ask' r' q')
-    → failures_after a.failed a.after.cage.cards ≡ failures_after a'.failed a'.after.cage.cards → tells_surety r ≡ tells_surety r' → (r ≡ r') × IsSameDesk q q'
-asked-same once d d' ask ask' r r' q q' desks asks plain plain' keys keys' a a' same_failures same_sure =
+    → failures_after a.failed a.after.cage.cards ≡ failures_after a'.failed a'.after.cage.cards → answer_leaves d.panel ask r ≡ answer_leaves d'.panel ask' r'
+    → (r ≡ r') × IsSameDesk q q'
+asked-same once d d' ask ask' r r' q q' desks asks plain plain' keys keys' a a' same_failures same_left =
     let key = subst (λ (x : SessionAsk). KeepsKey d.panel (AskSession x) (SaysSession r' a'.brings)) (sym asks) (keys' d.panel a'.brings) in
     let here : Step d.panel (AskSession ask) a'.failed (SaysSession r' a'.brings) a'.after =
     subst (λ (x : SessionAsk). Step d.panel (AskSession x) a'.failed (SaysSession r' a'.brings) a'.after) (sym asks)
     (subst (λ (x : DeskSeen). Step x.panel (AskSession ask') a'.failed (SaysSession r' a'.brings) a'.after) (sym desks) a'.step) in
+    let sure : answer_leaves d.panel ask r ≡ answer_leaves d.panel ask r' =
+    same_left ∙ ap (λ (x : DeskSeen). answer_leaves x.panel ask' r') (sym desks) ∙ ap (λ (x : SessionAsk). answer_leaves d.panel x r') (sym asks) in
     let one = once d.panel a.after a'.after (AskSession ask) a.failed a'.failed (SaysSession r a.brings) (SaysSession r' a'.brings)
-    a.step here same_failures same_sure (plain a.brings)
+    a.step here same_failures sure (plain a.brings)
     (plain' a'.brings) (keys d.panel a.brings) key in
     let answers : r ≡ r' = same-answer r r' a.brings a'.brings one.0 in (
       answers,
@@ -146,28 +149,32 @@ told-keeps : (piece : WorkSeen) (p : Panel) (ask : AskSeen) (a : AnswerSeen) →
 told-keeps (Pauses ticket micros) p ask a is = subst (λ (x : AskSeen). KeepsKey p x a) (sym is) tt
 told-keeps (Measures job) p ask a (done, ran, is) = subst (λ (x : AskSeen). KeepsKey p x a) (sym is) tt
 
+-- nor is anything of its answer left open
+told-asks : (piece : WorkSeen) (p : Panel) (ask : AskSeen) (a : AnswerSeen) → TellsOfPiece piece ask → leaves_open p ask a ≡ Determined
+told-asks (Pauses ticket micros) p ask a is = ap (λ (x : AskSeen). leaves_open p x a) is
+told-asks (Measures job) p ask a (done, ran, is) = ap (λ (x : AskSeen). leaves_open p x a) is
+
 -- a wait in which one piece is carried out
 worked-same : StepIsDetermined → (d d' q q' : DeskSeen) (c c' : Carried) (os os' : List Outcome) → IsSameDesk d d' → IsPlain c.answer
     → IsPlain c'.answer
-    → measured c.ask ++ Cards (failures_after c.failed c.after.cage.cards) (says_sure c.answer) ∷ os
-    ≡ measured c'.ask ++ Cards (failures_after c'.failed c'.after.cage.cards) (says_sure c'.answer) ∷ os'
+    → measured c.ask ++ Cards (failures_after c.failed c.after.cage.cards) Determined ∷ os
+    ≡ measured c'.ask ++ Cards (failures_after c'.failed c'.after.cage.cards) Determined ∷ os'
     → CarriesOutOldest c [] d q → CarriesOutOldest c' [] d' q' → IsSameDesk q q' × (os ≡ os')
 worked-same once d d' q q' c c' os os' desks plain plain' outcomes w w' =
     let queues : w.piece ∷ w.others ≡ w'.piece ∷ w'.others = sym w.oldest ∙ ap (λ (x : DeskSeen). x.work) desks ∙ w'.oldest in
     let tells : TellsOfPiece w.piece c'.ask =
     subst (λ (x : WorkSeen). TellsOfPiece x c'.ask) (sym (first-piece w.piece w'.piece w.others w'.others queues)) w'.carries.tells in
-    let cost = Cards (failures_after c.failed c.after.cage.cards) (says_sure c.answer) in
-    let cost' = Cards (failures_after c'.failed c'.after.cage.cards) (says_sure c'.answer) in
+    let cost = Cards (failures_after c.failed c.after.cage.cards) Determined in
+    let cost' = Cards (failures_after c'.failed c'.after.cage.cards) Determined in
     let told = told-same w.piece c.ask c'.ask (cost ∷ os) (cost' ∷ os') w.carries.tells tells outcomes in
     let costs = head-same cost cost' os os' told.1 in
-    let same_failures = failures-same (failures_after c.failed c.after.cage.cards) (failures_after c'.failed c'.after.cage.cards) (says_sure c.answer)
-    (says_sure c'.answer) costs in
-    let same_sure = sure-same (failures_after c.failed c.after.cage.cards) (failures_after c'.failed c'.after.cage.cards) (says_sure c.answer)
-    (says_sure c'.answer) costs in
+    let same_failures = failures-same (failures_after c.failed c.after.cage.cards) (failures_after c'.failed c'.after.cage.cards) Determined Determined costs in
+    let same_left : leaves_open d.panel c.ask c.answer ≡ leaves_open d.panel c.ask c'.answer =
+    told-asks w.piece d.panel c.ask c.answer w.carries.tells ∙ sym (told-asks w.piece d.panel c.ask c'.answer w.carries.tells) in
     let here : Step d.panel c.ask c'.failed c'.answer c'.after =
     subst (λ (x : AskSeen). Step d.panel x c'.failed c'.answer c'.after) (sym told.0) (subst (λ (x : DeskSeen).
     Step x.panel c'.ask c'.failed c'.answer c'.after) (sym desks) w'.carries.step) in
-    let one = once d.panel c.after c'.after c.ask c.failed c'.failed c.answer c'.answer w.carries.step here same_failures same_sure plain plain'
+    let one = once d.panel c.after c'.after c.ask c.failed c'.failed c.answer c'.answer w.carries.step here same_failures same_left plain plain'
     (told-keeps w.piece d.panel c.ask c.answer w.carries.tells) (told-keeps w.piece d.panel c.ask c'.answer w.carries.tells) in (
       keeps-same (record d { panel = c.after; work = w.others }) (record d' { panel = c'.after; work = w'.others }) (brought c.answer) (brought c'.answer) q q'
           (works-same (record d { panel = c.after }) (record d' {
@@ -188,8 +195,8 @@ waited-same once d d' q q' limit limit' (Again left) w' (a ∷ b ∷ cs) cs' os 
 waited-same once d d' q q' limit limit' (Again left) (Again left') (c ∷ []) [] os os' desks limits m n outcomes p p' = absurd p'
 waited-same once d d' q q' limit limit' (Again left) (Again left') (c ∷ []) (a ∷ b ∷ cs') os os' desks limits m n outcomes p p' = absurd (omega arith)
 waited-same once d d' q q' limit limit' (Again left) (Again left') (c ∷ []) (c' ∷ []) os os' desks limits m n outcomes p p' =
-    let cost = Cards (failures_after c.failed c.after.cage.cards) (says_sure c.answer) in
-    let cost' = Cards (failures_after c'.failed c'.after.cage.cards) (says_sure c'.answer) in
+    let cost = Cards (failures_after c.failed c.after.cage.cards) Determined in
+    let cost' = Cards (failures_after c'.failed c'.after.cage.cards) Determined in
     let joined : measured c.ask ++ cost ∷ os ≡ measured c'.ask ++ cost' ∷ os' =
     sym (append_assoc (measured c.ask) (cost ∷ []) os) ∙ outcomes ∙ append_assoc (measured c'.ask) (cost' ∷ []) os' in
     let one = worked-same once d d' q q' c c' os os' desks m.0.0 n.0.0 joined p.1 p'.1 in
@@ -239,14 +246,14 @@ passed-same : StepIsDetermined → (d d' q q' : DeskSeen) (e e' : Entry) (cs cs'
     → (p : PassesBy cs d e q) → (p' : PassesBy cs' d' e' q') → outcomes_by cs d e q p ++ os ≡ outcomes_by cs' d' e' q' p' ++ os' → SameCall e e' follows
     → SameAfter e e' q q' os os' follows
 passed-same once d d' q q' (Asked a r) (Asked a' r') [] [] os os' follows desks m n p p' outcomes (asks, on) =
-    let cost = Cards (failures_after p.failed p.after.cage.cards) (tells_surety r) in
-    let cost' = Cards (failures_after p'.failed p'.after.cage.cards) (tells_surety r') in
+    let cost = Cards (failures_after p.failed p.after.cage.cards) (answer_leaves d.panel a r) in
+    let cost' = Cards (failures_after p'.failed p'.after.cage.cards) (answer_leaves d'.panel a' r') in
     let costs = head-same cost cost' os os' outcomes in
-    let same_failures = failures-same (failures_after p.failed p.after.cage.cards) (failures_after p'.failed p'.after.cage.cards) (tells_surety r)
-    (tells_surety r') costs in
-    let same_sure = sure-same (failures_after p.failed p.after.cage.cards) (failures_after p'.failed p'.after.cage.cards) (tells_surety r)
-    (tells_surety r') costs in
-    let one = asked-same once d d' a a' r r' q q' desks asks m.0 n.0 m.2 n.2 p p' same_failures same_sure in
+    let same_failures = failures-same (failures_after p.failed p.after.cage.cards) (failures_after p'.failed p'.after.cage.cards) (answer_leaves d.panel a r)
+    (answer_leaves d'.panel a' r') costs in
+    let same_left = left-same (failures_after p.failed p.after.cage.cards) (failures_after p'.failed p'.after.cage.cards) (answer_leaves d.panel a r)
+    (answer_leaves d'.panel a' r') costs in
+    let one = asked-same once d d' a a' r r' q q' desks asks m.0 n.0 m.2 n.2 p p' same_failures same_left in
     (cc (asks, one.0), one.1, tail-same cost cost' os os' outcomes, on one.0)
 passed-same once d d' q q' (Asked a r) (Asked a' r') (c ∷ cs) cs' os os' follows desks m n p p' outcomes (asks, on) =
     let some : c ∷ cs ≡ [] = m.1 in absurd (cc some)

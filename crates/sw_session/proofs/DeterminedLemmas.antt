@@ -1,9 +1,7 @@
 -- A talk leaves no choice, where a text is read in one way.
 use Rattle.std.proofs.Common.{◌≡◌, ℕ, ◌+◌, Bool, true, false, MatchBool, List, [], ◌∷◌, ◌++◌, inl, inr, length, Option, Some, None, Result, Ok, Err, refl, ap}
 use Rattle.std.proofs.Common.{sym, ◌∙◌, subst}
-use Rattle.std.specs.Prelude.{◌==◌, nat_lt, slice_index_or, ◌-◌, ◌<◌, ◌⊎◌}
-use Rattle.std.proofs.Common.{⊎_elim}
-use Rattle.std.proofs.lemmas.Bool.{cases_order}
+use Rattle.std.specs.Prelude.{◌==◌, nat_lt}
 use Rattle.sw_base.specs.Limits.{most_bytes}
 use Rattle.sw_base.specs.declared.error.ScpiError.{ScpiError}
 use Rattle.sw_base.specs.declared.error.ScpiError.TheVariants.{SettingsConflict, OutOfMemory, InputBufferOverrun}
@@ -13,9 +11,9 @@ use Rattle.sw_lex.specs.Unit.{UnitSeen, IsUnit, IsRefusedUnit, IsBlank}
 use Rattle.sw_lex.specs.Meaning.{Nodes, Resolves}
 use Rattle.sw_verify.specs.declared.snapshot.Snapshot.{Snapshot as Taken}
 use Rattle.sw_verify.specs.declared.refusal.Refusal.{Refusal}
-use Rattle.sw_verify.specs.declared.refusal.Refusal.TheVariants.{EmptyList, NoChannel, NoMeter, GroupClash, TooManyReadings, BadNesting, BadJump, LeftClosed}
-use Rattle.sw_verify.specs.declared.refusal.Refusal.TheVariants.{NotClosed, NoMemory}
-use Rattle.sw_verify.specs.Check.{IsReady, IsFirst, IsRefusedScan as IsUnplanned, refusal_number, error_of}
+use Rattle.sw_verify.specs.Check.{error_of}
+use Rattle.sw_verify.specs.Ready.{IsReady, IsFirstCause, IsRefusedScan as IsUnplanned}
+use Rattle.sw_verify.proofs.OnceLemmas.{one_first, first_told}
 use Rattle.sw_macro.specs.Table.{Table}
 use Rattle.sw_macro.specs.Expansion.{calls, Expands}
 use Rattle.sw_core.specs.Action.{Effect, IsOfMacros, Initiates, Resets, ReadsOut, action_of}
@@ -177,32 +175,6 @@ settles-same b b' sid turn ask (Asked a (Snapshot s number) ∷ t) t' r r' f f' 
 settles-same b b' sid turn ask [] t' r r' f f' p q next = absurd p
 settles-same b b' sid turn ask (entry ∷ t) t' r r' f f' p q next = absurd p
 
--- a refusal by its number
-abbrev refusal_at : ℕ → Refusal
-refusal_at n = slice_index_or (EmptyList ∷ NoChannel ∷ NoMeter ∷ GroupClash ∷ TooManyReadings ∷ BadNesting ∷ BadJump ∷ LeftClosed ∷ NotClosed ∷ []) (n - 1)
-    NoMemory
-
-at-number : (r : Refusal) → refusal_at (refusal_number r) ≡ r
-at-number EmptyList = refl
-at-number NoChannel = refl
-at-number NoMeter = refl
-at-number GroupClash = refl
-at-number TooManyReadings = refl
-at-number BadNesting = refl
-at-number BadJump = refl
-at-number LeftClosed = refl
-at-number NotClosed = refl
-at-number NoMemory = refl
-
--- one refusal is the first
-first-one : (s : Taken) (r r' : Refusal) → IsFirst r s → IsFirst r' s → r ≡ r'
-first-one s r r' f f' =
-    ⊎_elim (λ (e : refusal_number r ≡ refusal_number r'). sym (at-number r) ∙ ap refusal_at e ∙ at-number r')
-    (λ (o : (refusal_number r < refusal_number r') ⊎ (refusal_number r' < refusal_number r)).
-    ⊎_elim (λ (l : refusal_number r < refusal_number r'). absurd (f'.none_before r l f.applies)) (λ (l : refusal_number r' < refusal_number r).
-    absurd (f.none_before r' l f'.applies)) o)
-    (cases_order (refusal_number r) (refusal_number r'))
-
 -- an answer that stands
 stands-same : {T : Type 0} (b b' : T) (x : SessionAnswer) (t t' r r' : List Entry) (f f' : SessionAnswer) → (f ≡ x) × (r ≡ t) → (f' ≡ x) × (r' ≡ t')
     → (f ≡ f' → Rests b b' r r') → Rests b b' t t'
@@ -210,10 +182,10 @@ stands-same b b' x t t' r r' f f' (fin, left) (fin', left') next = rw (← left,
 
 -- the first refusal, where no error is queued for want of memory
 refused-first : (sid : Sid) (s : Taken) (r : Refusal) (t rest : List Entry) (f : SessionAnswer) → AllAmple t → IsUnplanned r s
-    → Queues sid (error_of r) t f rest → (IsReady s → ⊥) × IsFirst r s
-refused-first sid s r t rest f m x q = elim x [
+    → Queues sid (error_of r) t f rest → (IsReady s → ⊥) × IsFirstCause r s
+refused-first sid s r t rest f m x q = elim (first_told s r x) [
   | inl y ↦ y
-  | inr y ↦ absurd (no-loss sid t rest f m (subst (λ (k : Refusal). Queues sid (error_of k) t f rest) y.1 q))
+  | inr y ↦ absurd (no-loss sid t rest f m (subst (λ (k : Refusal). Queues sid (error_of k) t f rest) y q))
 ]
 
 plans-same : {T : Type 0} (b b' : T) (sid : Sid) (told : SessionAnswer) (t t' r r' : List Entry) (f f' : SessionAnswer) → Plans sid told t f r
@@ -228,7 +200,7 @@ plans-same b b' sid (Snapshot s number) t t' r r' f f' p q next = λ m n. elim p
     | inr k' ↦
         let first = refused-first sid s k.0 t r f m k.1 k.2 in
         let first' = refused-first sid s k'.0 t' r' f' n k'.1 k'.2 in
-        let one = first-one s k.0 k'.0 first.1 first'.1 in
+        let one = one_first s k.0 k'.0 first.1 first'.1 in
         queues-same b b' sid (error_of k.0) t t' r r' f f' k.2 (subst (λ (x : Refusal). Queues sid (error_of x) t' f' r') (sym one) k'.2) next m n
   ]
 ]

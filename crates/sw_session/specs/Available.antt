@@ -21,7 +21,7 @@ Notes = List (Option Mark)
 abbrev pub no_notes : Notes
 no_notes = replicate most_sessions None
 
--- it is that of the session that joined after so many events
+-- it is that of the session that joined after this many events
 abbrev pub is_joined_after : ℕ → Option Mark → Bool
 is_joined_after joined None = false
 is_joined_after joined (Some mark) = mark.joined == joined
@@ -58,7 +58,7 @@ with_joined notes sid = with_mark notes sid.number (Some (record { joined = sid.
 abbrev pub with_left : Notes → Sid → Notes
 with_left notes sid = if is_joined notes sid then with_mark notes sid.number None else notes
 
--- what an ask is to change about who has joined
+-- how an ask is to change which sessions have joined
 abbrev pub seating_of : SessionAsk → Seating
 seating_of Ask.Join = Joins
 seating_of (Ask.Leave sid) = Leaves sid

@@ -30,7 +30,7 @@ pub record QueueSeen : Type 0 where
   pub pieces : List WorkSeen
   pub room : ℕ
 
--- none, and room for the one that a scan has
+-- no work, and room for the piece that a scan has
 abbrev pub no_work : QueueSeen
 no_work = record { pieces = []; room = 1 }
 
@@ -51,13 +51,13 @@ abbrev pub piece_seen : {M : _} → Work M → WorkSeen
 piece_seen (Work.Measure job) = Measures job.1
 piece_seen (Work.Pause ticket micros) = Pauses ticket micros
 
--- the pieces in their order, the oldest of which stands by itself
+-- the pieces in their order, the oldest of which is kept apart
 abbrev pub outstanding : {M : _} → Option (Work M) → List (Work M) → List WorkSeen
 outstanding None others = []
 outstanding (Some oldest) others = piece_seen oldest ∷ map piece_seen others
 
--- a piece that was carried out: what the mainframe was told, whether a card failed in that call, what it answered, and
--- its state after that
+-- a piece that was carried out: the report to the mainframe, whether a card failed in that call, what the mainframe
+-- answered, and its state after that
 pub record Carried : Type 0 where
   pub ask : AskSeen
   pub failed : Bool
@@ -69,12 +69,13 @@ abbrev pub brought : AnswerSeen → Option WorkSeen
 brought (SaysTaken work) = work
 brought answer = None
 
--- what is told of a piece: that a pause is over, for pauses take no time; or a measurement, made once
+-- the report of a piece: that a pause is over, for pauses take no time; or a measurement, made once
 abbrev pub TellsOfPiece : WorkSeen → AskSeen → Type 0
 TellsOfPiece (Pauses ticket micros) ask = ask ≡ AskElapsed ticket
 TellsOfPiece (Measures job) ask = (done : FinishedSeen) × IsDone job done × (ask ≡ AskFinished done)
 
--- The piece is carried out, and the mainframe told. A card failed in that call where the counts of failures tell so.
+-- The piece is carried out and reported to the mainframe. A card failed in that call where the counts of failures say
+-- so.
 pub record CarriesOut (old : Panel) (piece : WorkSeen) (c : Carried) : Type 0 where
   pub tells : TellsOfPiece piece c.ask
   pub own : IsOwnAccount c.ask
@@ -97,7 +98,7 @@ pub record CarriesOldest (old : DeskSeen) (work : List WorkSeen) (c : Carried) (
   pub leaves : new ≡ record old { panel = c.after; work = others; room = new.room }
 
 -- Work that came with an answer is kept behind the rest. Where a growth for it was refused, the oldest piece of all is
--- carried out at once in its place, and what comes of that is kept in turn.
+-- carried out at once in its place, and what that brings is kept in turn.
 abbrev pub Keeps : List Carried → DeskSeen → Option WorkSeen → DeskSeen → Type 0
 Keeps [] d None new = new ≡ d
 Keeps [] d (Some piece) new = PutsBehind d piece new
@@ -116,8 +117,8 @@ pub record IsCarried (old : DeskSeen) (piece : WorkSeen) (brings : Option WorkSe
   pub brings_is : brings ≡ brought c.answer
   pub leaves : new ≡ record old { panel = c.after }
 
--- An ask is one step of the mainframe, in which a card failed where the counts of failures tell so, and its work is
--- kept. Who joins by it has no message available.
+-- An ask is one step of the mainframe, in which a card failed where the counts of failures say so, and its work is
+-- kept. A session that joins by it has no message available.
 pub record AnswersAsk (carried : List Carried) (old : DeskSeen) (ask : SessionAsk) (answer : SessionAnswer)
     (new : DeskSeen) : Type 0 where
   pub failed : Bool
@@ -127,7 +128,7 @@ pub record AnswersAsk (carried : List Carried) (old : DeskSeen) (ask : SessionAs
   pub counts : failed ≡ any_failed old.panel.cage.cards after.cage.cards
   pub keeps : Keeps carried (record old { panel = after; available = seated old.available ask answer }) brings new
 
--- the oldest piece is carried out, and what comes of it is kept
+-- the oldest piece is carried out, and what it brings is kept
 pub record CarriesOutOldest (c : Carried) (carried : List Carried) (old new : DeskSeen) : Type 0 where
   pub piece : WorkSeen
   pub others : List WorkSeen
@@ -165,7 +166,7 @@ last_wait false = []
 abbrev pub most_waits : ℕ
 most_waits = 2 ^ 64 - 1
 
--- The desk waits without a limit until nothing is outstanding, or so many times in vain.
+-- The desk waits without a limit until nothing is outstanding, or `most_waits` times in vain.
 pub record WaitsOut (old : DeskSeen) (rested : Bool) (new : DeskSeen) : Type 0 where
   pub waits : ℕ
   pub leads : Leads CorePasses old (replicate waits (Waited None (Again None)) ++ last_wait rested) new

@@ -38,8 +38,8 @@ pub record IsRunTo (p q : Panel) : Type 0 where
   pub run : IsRun p events
   pub there : q ≡ last_of p events
 
--- By these calls of its desk a mainframe goes through a run: its events are, in their order, each ask of the sessions
--- with its answer, and what is told of the work that was carried out.
+-- By these calls of its desk a mainframe makes a run: its events are, in their order, each ask of the sessions with its
+-- answer, and each report of work that was carried out.
 pub record DeskRuns (old : DeskSeen) (trace : List Entry) (new : DeskSeen) : Type 0 where
   pub runs : IsRunTo old.panel new.panel
   pub asks : asked_of runs.events ≡ asked_in trace

@@ -17,7 +17,7 @@ use Rattle.sw_session.specs.EngineSync.{SyncStanding, OpensSync, TakesSync, Falt
 use Rattle.sw_session.specs.EngineAsync.{AsyncStanding, OpensAsync, TakesAsync, notice_of, noticed}
 use Rattle.sw_session.specs.Trace.{Entry}
 
--- how a channel stands, and whether memory ran out at a message of it
+-- a channel's state, and whether memory ran out at a message of it
 pub record EngineStanding : Type 0 where
   pub state : State
   pub spent : Bool
@@ -26,7 +26,7 @@ pub record EngineStanding : Type 0 where
 abbrev pub fresh_engine : Channel → EngineStanding
 fresh_engine channel = record { state = Unopened channel; spent = false }
 
--- how a channel stands after its first message
+-- a channel's state after its first message
 abbrev pub opened_sync : Option SyncStanding → State
 opened_sync None = Unopened Synchronous
 opened_sync (Some s) = Synchronized s
@@ -66,7 +66,7 @@ FaltersAt state m asked = asked ≡ []
 abbrev pub Falters : EngineStanding → Message → List Entry → Type 0
 Falters e m asked = MatchBool e.spent (asked ≡ []) (FaltersAt e.state m asked)
 
--- a message whose payload is too long is answered so (own)
+-- the answer to a message with too long a payload (own)
 abbrev pub too_large : Message
 too_large = error_message TooLarge
 
@@ -75,7 +75,7 @@ abbrev pub skips : Kind → State → State
 skips kind (Synchronized s) = Synchronized (record s { partial = skipped (sync_request kind) s.partial })
 skips kind s = s
 
--- service requests are told on the second channel
+-- the second channel sends service requests
 abbrev pub notice_from : State → View → Option Message
 notice_from (Attached s) view = notice_of s view
 notice_from s view = None

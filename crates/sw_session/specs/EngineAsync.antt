@@ -99,8 +99,9 @@ lock_code (Answer.Lock code) = Some code
 lock_code Broken = Some 3
 lock_code answer = None
 
--- The channel asks for a lock by an ask that was held `turn` times. While it is held the channel waits and asks again;
--- each wait has what the last one left of the limit. After Over, or at the last turn, the code is 0: not in time.
+-- The channel asks for a lock by an ask that was held `turn` times. While the desk holds it, the channel waits and asks
+-- again; each wait has what the last one left of the limit. After Over, or at the last turn, the code is 0: not in
+-- time.
 abbrev pub AwaitsLock : ℕ → SessionAsk → Option ℕ → List Entry → Option ℕ → Type 0
 AwaitsLock turn ask limit (Asked a (Hold b) ∷ Waited l Over ∷ []) code = (a ≡ ask) × (l ≡ limit) × (code ≡ Some 0)
 AwaitsLock turn ask limit (Asked a (Hold b) ∷ Waited l (Again left) ∷ asked) code =
@@ -129,7 +130,7 @@ AsksForLock sid m asked step =
     MatchBool (m.control == 1) (AsksLock sid m.payload m.parameter asked step)
     (MatchBool (m.control == 0) (ReleasesLock sid asked step) (Unasked miscontrolled asked step))
 
--- whether an exclusive lock is held, and how many sessions hold one
+-- whether a session holds the exclusive lock, and how many sessions hold a lock
 abbrev pub info_reply : SessionAnswer → StepSeen
 info_reply (Info exclusive holders) = replies (lock_info exclusive holders)
 info_reply answer = over
@@ -159,7 +160,7 @@ pub record TellsStatus (s : AsyncStanding) (control : ℕ) (asked : List Entry) 
       (plain Kind.AsyncStatusResponse (status_byte view.byte view.mav (nat_lt s.polled view.requests)) 0)
   pub counts : s' ≡ record s { polled = max s.polled view.requests }
 
--- A service request is said where there were more of them than at the last one that was said.
+-- The channel says a service request where there were more of them than at the last one that it said.
 abbrev pub notice_of : AsyncStanding → View → Option Message
 notice_of s view =
     if nat_lt s.told view.requests

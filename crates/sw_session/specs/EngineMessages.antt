@@ -1,4 +1,4 @@
--- What stands in the messages of an instrument (IVI-6.1 HiSLIP; what is said to be own is this instrument's choice).
+-- The contents of the messages of an instrument (IVI-6.1 HiSLIP; what is said to be own is this instrument's choice).
 use Rattle.std.specs.Prelude.{◌≡◌, ℕ, ◌+◌, ◌-◌, ◌*◌, ◌/◌, ◌^◌, ◌<◌, ◌≤◌, ◌%◌, min, max, nat_eq, bit_or, Bool, List, []}
 use Rattle.std.specs.Prelude.{◌∷◌, ◌++◌, length, take, drop, replicate, if◌then◌else◌}
 use Rattle.std.specs.Str.{IsAscii}
@@ -30,7 +30,7 @@ fatal_number WithoutBothChannels = 2
 fatal_number InvalidInitialization = 3
 fatal_number TooManyClients = 4
 
--- the code of a fault stands as control code, and nothing else is told of it (own)
+-- the control code is the code of a fault, and nothing else is said of it (own)
 abbrev pub error_message : ErrorCode → Message
 error_message code = plain Kind.Error (error_number code) 0
 
@@ -62,7 +62,7 @@ second_welcome = plain Kind.AsyncInitializeResponse 0 0x5357
 
 -- ---- sizes
 
--- The size that a client tells: the number in the first eight bytes of the payload. Fewer bytes are a shorter number
+-- The size that a client sends: the number in the first eight bytes of the payload. Fewer bytes are a shorter number
 -- (own).
 abbrev pub size_told : List ℕ → ℕ
 size_told payload = from_be_bytes w64 (replicate (8 - length payload) 0 ++ take 8 payload)
@@ -104,6 +104,6 @@ status_byte byte mav rqs = bit_or (bit_or byte (if mav then 2 ^ 4 else 0)) (if r
 
 -- ---- locks and remote control
 
--- AsyncLockInfoResponse: whether the exclusive lock is held, and how many sessions hold a lock
+-- AsyncLockInfoResponse: whether a session holds the exclusive lock, and how many sessions hold a lock
 abbrev pub lock_info : Bool → ℕ → Message
 lock_info exclusive holders = plain Kind.AsyncLockInfoResponse (if exclusive then 1 else 0) holders

@@ -17,7 +17,7 @@ use Rattle.sw_session.specs.Trace.{Entry, Asked, Leads}
 abbrev pub on : Channel → Message → Sent
 on channel m = record { channel = channel; message = m }
 
--- these messages are said, and the channel goes on
+-- these messages are said, and the channel continues
 abbrev pub goes : List Sent → StepSeen
 goes said = record { out = said; ends = false }
 
@@ -25,11 +25,11 @@ goes said = record { out = said; ends = false }
 abbrev pub over : StepSeen
 over = record { out = []; ends = true }
 
--- one message is said on this channel, which goes on
+-- one message is said on this channel, which continues
 abbrev pub says : Channel → Message → StepSeen
 says channel m = goes (on channel m ∷ [])
 
--- a fault is told on the channel that met it, and the channel ends
+-- the channel that met a fault reports it, and ends
 abbrev pub fails : Channel → FatalCode → StepSeen
 fails channel code = record { out = on channel (fatal_of code) ∷ []; ends = true }
 
@@ -62,7 +62,7 @@ pub record LedBy {D : Type 0} (passes : D → Entry → D → Type 0) (old new :
   pub leads : Leads passes old asked new
   pub admits : P asked
 
--- what a reply comes to on this channel
+-- the step for a reply on this channel
 abbrev pub reply_step : Channel → Reply → StepSeen
 reply_step channel (Says m) = says channel m
 reply_step channel Silence = goes []

@@ -29,8 +29,8 @@ use Rattle.sw_base.specs.Limits.{most_kept}
 use Rattle.sw_session.specs.Talk.{TalksMessage, Settles, Queues, is_done}
 use Rattle.sw_session.specs.Trace.{Entry, Asked, Polled, Noted}
 
--- the state of the channel: its session, the session's macros, whether its second channel was seen to be open, and what
--- has come of a program message that isn't ended
+-- the state of the channel: its session, the session's macros, whether its second channel was seen to be open, and the
+-- part that has come of a program message without its end
 pub record SyncStanding : Type 0 where
   pub sid : Sid
   pub macros : Table
@@ -206,7 +206,7 @@ GivesTrigger false sid asked final = Settles sid 0 (Ask.Bus sid) asked final []
 abbrev pub trigger_step : SessionAnswer → StepSeen
 trigger_step final = record { out = []; ends = is_gone final }
 
--- Trigger: what came of a program message is dropped
+-- Trigger: the part that has come of a program message is dropped
 abbrev pub Triggers : Bool → Sid → List Entry → StepSeen → Type 0
 Triggers within sid asked step = (final : SessionAnswer) × GivesTrigger within sid asked final
     × (step ≡ trigger_step final)
@@ -269,7 +269,7 @@ Completes sid (Asked a answer ∷ asked) step =
     (Unasked over asked step)
 Completes sid asked step = ⊥
 
--- then what came of a program message is dropped
+-- then the part that has come of a program message is dropped
 abbrev pub message_completed : SyncStanding → StepSeen → SyncStanding
 message_completed s step = if step.ends then s else record s { partial = PartialMessage.Nothing }
 

@@ -6,7 +6,7 @@ use Rattle.sw_hislip.specs.declared.message.Message.{Message}
 use Rattle.sw_session.specs.EngineMessages.{part}
 
 -- An answer under this identifier in parts of this many bytes, and a last one that may have fewer: as Data, and the
--- last as DataEnd. No more parts than so many come before the last.
+-- last as DataEnd. At most `most` parts come before the last.
 abbrev pub in_parts : ℕ → ℕ → ℕ → List ℕ → List Message
 in_parts zero room id bytes = part Kinds.DataEnd id bytes ∷ []
 in_parts (suc most) room id bytes =

@@ -1,5 +1,5 @@
 -- A talk leaves no choice, and a message that comes in parts is one message.
-use Rattle.std.specs.Prelude.{◌≡◌, ◌≢◌, ℕ, ◌≤◌, List, [], ◌∷◌, ◌++◌, length, replicate, true, Option, Some, None}
+use Rattle.std.specs.Prelude.{◌≡◌, ◌≢◌, ℕ, ◌≤◌, List, [], ◌∷◌, ◌++◌, length, replicate, true, false, Option, Some, None}
 use Rattle.std.specs.Prelude.{Bool, Result}
 use Rattle.std.specs.Prelude.{◌↔◌}
 use Rattle.std.specs.List.{AllByRecursion, concat}
@@ -12,8 +12,8 @@ use Rattle.sw_base.specs.declared.reading.Reading.{Reading}
 use Rattle.sw_card.specs.declared.board.CardFault.{CardFault}
 use Rattle.sw_core.specs.declared.ask.SessionAnswer.{SessionAnswer}
 use Rattle.sw_core.specs.Panel.{Panel}
-use Rattle.sw_core.specs.Run.{IsPlain, KeepsKey, FailuresAfter, failures_after, says_sure}
-use Rattle.sw_core.specs.SlotTexts.{tells_surety}
+use Rattle.sw_core.specs.Run.{IsPlain, KeepsKey, FailuresAfter, failures_after}
+use Rattle.sw_core.specs.LeftOpen.{LeftOpen, Determined, answer_leaves}
 use Rattle.sw_core.specs.Seen.{WorkSeen, AskSeen, AskSession, AskFinished, SaysSession}
 use Rattle.sw_macro.specs.Table.{Table}
 use Rattle.sw_session.specs.CoreDesk.{DeskSeen, but_room, Carried, PassesBy, CorePasses, WaitsOut, last_wait}
@@ -62,11 +62,11 @@ TalkIsDetermined = (sid : Sid) (macros : Table) (text : List ℕ) (trace trace' 
     → TalksMessage sid macros text trace' bytes' kept' → AllAmple trace → AllAmple trace'
     → SameTalk (left bytes kept) (left bytes' kept') trace trace'
 
--- the mainframe tells of no want of memory
+-- the mainframe reports no want of memory
 abbrev pub TellsPlainly : SessionAnswer → Type 0
 TellsPlainly answer = (work : Option WorkSeen) → IsPlain (SaysSession answer work)
 
--- nor of a key of a lock that found no memory
+-- nor a key of a lock that found no memory
 abbrev pub KeepsKeys : SessionAsk → SessionAnswer → Type 0
 KeepsKeys ask answer = (p : Panel) (work : Option WorkSeen) → KeepsKey p (AskSession ask) (SaysSession answer work)
 
@@ -87,28 +87,29 @@ abbrev pub carried_of : (old : DeskSeen) (trace : List Entry) (new : DeskSeen) �
 carried_of old [] new l = []
 carried_of old (e ∷ trace) new (mid, passes, l) = passes.0 ∷ carried_of mid trace new l
 
--- What is up to the world: what a measurement came to, and what came of the cards in a call of the mainframe: their
--- failures, and whether one that was asked said that it is sure of its relays.
+-- What is up to the world: the outcome of a measurement, and what the cards did in a call of the mainframe: their
+-- failures, and what else the state leaves open of its answer.
 pub data Outcome : Type 0 where
   Measured : (outcome : Result Reading CardFault) → Outcome
-  Cards : (failures : FailuresAfter) → (sure : Bool) → Outcome
+  Cards : (failures : FailuresAfter) → (left : LeftOpen) → Outcome
 
--- what was measured, if it is a measurement that is told
+-- the outcome of a measurement, where the ask reports one
 abbrev pub measured : AskSeen → List Outcome
 measured (AskFinished done) = Measured done.outcome ∷ []
 measured ask = []
 
--- the outcomes of these pieces, in order
+-- the outcomes of these pieces, in order; the answers to them are determined
 abbrev pub outcomes_in : List Carried → List Outcome
 outcomes_in [] = []
 outcomes_in (c ∷ carried) =
-    measured c.ask ++ Cards (failures_after c.failed c.after.cage.cards) (says_sure c.answer) ∷ outcomes_in carried
+    measured c.ask ++ Cards (failures_after c.failed c.after.cage.cards) Determined ∷ outcomes_in carried
 
 -- the outcomes of a call of the desk: of the ask itself, and of the pieces that were carried out
 abbrev pub outcomes_by : (carried : List Carried) (old : DeskSeen) (entry : Entry) (new : DeskSeen)
     → PassesBy carried old entry new → List Outcome
 outcomes_by carried old (Asked ask answer) new passes =
-    Cards (failures_after passes.failed passes.after.cage.cards) (tells_surety answer) ∷ outcomes_in carried
+    Cards (failures_after passes.failed passes.after.cage.cards) (answer_leaves old.panel ask answer)
+    ∷ outcomes_in carried
 outcomes_by carried old entry new passes = outcomes_in carried
 
 -- the outcomes of all these calls
@@ -131,9 +132,9 @@ outcomes_in_talk {old} {new} t = outcomes_of old.desk t.trace new.desk t.leads
 abbrev pub IsSameDesk : DeskSeen → DeskSeen → Type 0
 IsSameDesk d d' = but_room d ≡ but_room d'
 
--- Over a mainframe the message, the macros, the outcomes of the measurements that are carried out and what came of the
--- cards determine what is asked, answered and written, the desk that is left, whatever its room, and the macros, where
--- no growth was refused.
+-- Over a mainframe the message, the macros, the outcomes of the measurements that are carried out and what the cards
+-- did determine what is asked, answered and written, the desk that is left but for its room, and the macros, where no
+-- growth was refused.
 abbrev pub CoreTalkIsDetermined : Type 0
 CoreTalkIsDetermined = (sid : Sid) (old old' new new' : TalkState DeskSeen) (message bytes bytes' : List ℕ)
     (t : Talked CorePasses sid old message bytes new) (t' : Talked CorePasses sid old' message bytes' new')
@@ -152,8 +153,8 @@ carried_at_rest {old} {new} r = carried_of old (waits_of r) new r.leads
 abbrev pub outcomes_at_rest : {old new : DeskSeen} → WaitsOut old true new → List Outcome
 outcomes_at_rest {old} {new} r = outcomes_of old (waits_of r) new r.leads
 
--- A rest that succeeds leaves one desk, whatever its room, for what is measured and what came of the cards, where no
--- growth was refused.
+-- What is measured and what the cards did determine the desk that a rest that succeeds leaves, but for its room, where
+-- no growth was refused.
 abbrev pub CoreRestIsDetermined : Type 0
 CoreRestIsDetermined = (d d' e e' : DeskSeen) (r : WaitsOut d true e) (r' : WaitsOut d' true e') → IsSameDesk d d'
     → AllSmooth (waits_of r) (carried_at_rest r) → AllSmooth (waits_of r') (carried_at_rest r')

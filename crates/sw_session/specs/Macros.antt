@@ -14,7 +14,7 @@ use Rattle.sw_macro.specs.Table.{Table, labels, body_of, with_macro, without_mac
 use Rattle.sw_macro.specs.Table.{RefusedBy}
 use Rattle.sw_core.specs.Answers.{yes_or_no}
 
--- what a command comes to: its answer, if it has one, or its refusal
+-- the outcome of a command: its answer, if it has one, or its refusal
 abbrev pub Told : Type 0
 Told = Result (Option (List ℕ)) ScpiError
 
@@ -33,7 +33,7 @@ abbrev pub labels_text : List (List ℕ) → List ℕ
 labels_text [] = quoted []
 labels_text (l ∷ ls) = row_of (l ∷ ls)
 
--- ---- what comes of a command
+-- ---- the outcome of a command
 
 -- a text is answered, unless there is no memory for it
 abbrev pub TellsMacroText : List ℕ → Told → Type 0
@@ -57,7 +57,7 @@ TellsBody label t (Ok text) = (body : List ℕ) × (refusal_to_find t label ≡ 
     × (body_of (in_capitals label) t.macros ≡ Some body) × (text ≡ Some (block_of body))
 TellsBody label t (Err e) = RefusedBy (refusal_to_find t label) e
 
--- What a macro command does to the macros, and what it comes to.
+-- What a macro command does to the macros, and its outcome.
 abbrev pub ActsOnMacros : Command → Table → Told → Table → Type 0
 ActsOnMacros (Macro (Define macro)) t told t' = DefinesMacro macro.label macro.body t told t'
 ActsOnMacros (Macro (BodyQuery label)) t told t' = TellsBody label t told × (t' ≡ t)

@@ -11,7 +11,7 @@ abbrev pub pieces_of : Option WorkSeen → List WorkSeen
 pieces_of None = []
 pieces_of (Some piece) = piece ∷ []
 
--- the work that came of pieces that were carried out
+-- the work that pieces brought that were carried out
 abbrev pub brought_by : List Carried → List WorkSeen
 brought_by [] = []
 brought_by (c ∷ carried) = pieces_of (brought c.answer) ++ brought_by carried
@@ -54,7 +54,7 @@ abbrev pub WorkIsDoneInOrder : Type 0
 WorkIsDoneInOrder = (old new : DeskSeen) (entry : Entry) (passes : CorePasses old entry new)
     → old.work ++ came_in passes.0 old entry new passes.1 ≡ done_in passes.0 old entry new passes.1 ++ new.work
 
--- there is room for a piece that comes in such a call, of which a wait takes one off first
+-- there is room for a piece that comes in such a call; a wait takes one off first
 abbrev pub HasRoomForPiece : Entry → DeskSeen → Type 0
 HasRoomForPiece (Waited limit wake) d = length d.work ≤ d.room
 HasRoomForPiece entry d = length d.work < d.room

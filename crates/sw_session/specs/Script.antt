@@ -3,7 +3,8 @@ use Rattle.std.specs.Prelude.{ℕ, List, [], ◌∷◌}
 use Rattle.sw_base.specs.declared.error.ScpiError.{ScpiError}
 use Rattle.sw_lex.specs.Unit.{UnitSeen, IsUnit, IsRefusedUnit, IsBlank}
 
--- where the units end: at the end of the text, at the first byte that fits no form, or where nobody reads on
+-- where the units end: at the end of the text, at the first byte that fits no form, or where the session reads no
+-- further
 pub data Ending : Type 0 where
   Complete : Ending
   EndsRefused : ScpiError → Ending

@@ -59,7 +59,8 @@ pauses (i ∷ inputs) = is_pause i + pauses inputs
 
 -- ---- exchanges
 
--- an act, what was asked for it, what was said, and the notes of a message available made as that was handed over
+-- an act, what was asked for it, what was said, and the notes of a message available made as the server gave that to
+-- its writer
 pub record Exchange : Type 0 where
   pub act : Act
   pub asked : List Entry
@@ -92,7 +93,7 @@ ProceedsAfter on Ends mid xs after s' = (xs ≡ []) × (after ≡ Ends) × (s' �
 ProceedsAfter on Fatal mid xs after s' = (xs ≡ []) × (after ≡ Fatal) × (s' ≡ mid)
 ProceedsAfter on Malformed mid xs after s' = (xs ≡ []) × (after ≡ Malformed) × (s' ≡ mid)
 
--- an engine goes through these exchanges, of which only the last may end the channel
+-- an engine goes through these exchanges, and only the last may end the channel
 abbrev pub Speaks : {E : Type 0} → Protocol E → E → List Exchange → AfterStep → E → Type 0
 Speaks v s [] after s' = (after ≡ Goes) × (s' ≡ s)
 Speaks v s (x ∷ xs) after s' =
@@ -120,7 +121,7 @@ pub record Spoken {E D : Type 0} (u : Voice E D) (a b : Point E D) (xs : List Ex
 
 -- ---- acts that fail
 
--- the messages said to an act were handed over up to one that is not written
+-- the server gave the messages said to an act to their writers, up to one that is not written
 pub record IsCutOff {E D : Type 0} (u : Voice E D) (a b : Point E D) (act : Act) (fault : ServeFault) : Type 0 where
   pub asked : List Entry
   pub step : StepSeen

@@ -9,7 +9,7 @@ use Rattle.sw_session.specs.Trace.{Entry}
 use Rattle.sw_session.specs.ServeRead.{IsLedTo}
 use Rattle.sw_session.specs.ServeEngine.{Station, ServesChannel}
 
--- what the traits of a server's reader and its two writers tell of them
+-- what the traits of a server's reader and its two writers say of them
 pub record Wiring (R W S : Type 0) : Type 1 where
   pub reads : Source.Ghosts R
   pub writes : Sink.Ghosts W
@@ -38,7 +38,7 @@ station_of w c = record {
   side = w.writes_aside.contents c.side;
 }
 
--- The channel is served, with what the reader and the writers tell of their bytes and of the reads that a time limit
+-- The channel is served, with what the reader and the writers say of their bytes and of the reads that a time limit
 -- ended. A fault of reading comes where a read failed, and one of writing where a write failed.
 pub record ServesConnection {D R W S : Type 0} (own : Channel) (turns : ℕ) (passes : D → Entry → D → Type 0)
     (w : Wiring R W S) (before after : Connected D R W S) (result : Result (Unit {0}) ServeFault) : Type 0 where

@@ -18,7 +18,7 @@ use Rattle.sw_session.specs.Engine.{notice_from, noticed_from}
 use Rattle.sw_session.specs.ServePoint.{Protocol, voice, point}
 use Rattle.sw_session.specs.Serve.{Course, course, ServesAndLeaves}
 
--- a service request that is told, if any
+-- a service request that is said, if any
 abbrev pub told_step : Option Message → StepSeen
 told_step None = goes []
 told_step (Some m) = says Asynchronous m
@@ -28,7 +28,7 @@ abbrev pub second_session_of : State → Option Sid
 second_session_of (Attached s) = Some s.sid
 second_session_of s = None
 
--- The second channel of a session looks at its status, and tells of service requests that were not told yet. Any other
+-- The second channel of a session looks at its status, and says service requests that it has not said yet. Any other
 -- channel asks and says nothing.
 abbrev pub LooksFor : Option Sid → State → List Entry → StepSeen → State → Type 0
 LooksFor (Some sid) s (Polled p view ∷ []) step t = (p ≡ sid) × (step ≡ told_step (notice_from s view))
@@ -40,7 +40,7 @@ abbrev pub Looks : State → List Entry → StepSeen → State → Type 0
 Looks s asked step t = LooksFor (second_session_of s) s asked step t
 
 -- What an engine asks and says to an act: to a message what its channel's definition says, to one that was skipped
--- Error 4 (own), to a header that doesn't begin with `HS` FatalError 1, and service requests are told.
+-- Error 4 (own), to a header that doesn't begin with `HS` FatalError 1; and it says service requests.
 abbrev pub EngineSpeaks : EngineStanding → Act → List Entry → StepSeen → EngineStanding → Type 0
 EngineSpeaks e (Act.Takes m) asked step f =
     TakesMessage e.state m asked step f.state × (e.spent ≡ false) × (f.spent ≡ false)
@@ -59,7 +59,7 @@ EngineFalters e act asked f = (asked ≡ []) × (f ≡ e)
 abbrev pub engine_protocol : Protocol EngineStanding
 engine_protocol = record { speaks = EngineSpeaks; falters = EngineFalters; session = λ e. session_of e.state }
 
--- where a channel's server stands, but for its engine: its desk, what is left to be read, how many reads a time limit
+-- the state of a channel's server but for its engine: its desk, what is left to be read, how many reads a time limit
 -- has ended, and what its two writers hold
 pub record Station (D : Type 0) : Type 0 where
   pub desk : D

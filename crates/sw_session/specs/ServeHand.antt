@@ -23,18 +23,18 @@ abbrev pub notes_before : Option Sid → Sent → List Entry
 notes_before None s = []
 notes_before (Some sid) s = if is_answer_part s.message.kind then Noted sid true ∷ [] else []
 
--- the notes of these messages, as they are handed over
+-- the notes of these messages, as the server gives them to their writers
 abbrev pub availability_notes : Option Sid → List Sent → List Entry
 availability_notes sid said = flat_map (notes_before sid) said
 
--- These messages were handed over, and are written whole. The engine stays as it is.
+-- The server gave these messages to their writers, and they are written whole. The engine stays as it is.
 pub record HandsOver {E D : Type 0} (u : Voice E D) (a b : Point E D) (said : List Sent) : Type 0 where
   pub engine : b.engine ≡ a.engine
   pub notes : Leads u.passes a.desk (availability_notes (u.protocol.session a.engine) said) b.desk
   pub main : Appends a.main b.main (flat_map (wire_on u.own) said)
   pub side : Appends a.side b.side (flat_map (wire_off u.own) said)
 
--- this message was handed over, of which its writer took all, or a front part where that fails
+-- the server gave this message to its writer, which took all, or a front part where it fails
 pub record HandsOne {E D F : Type 0} (u : Voice E D) (a b : Point E D) (s : Sent) (result : Result (Unit {0}) F)
     : Type 0 where
   pub engine : b.engine ≡ a.engine
@@ -42,13 +42,14 @@ pub record HandsOne {E D F : Type 0} (u : Voice E D) (a b : Point E D) (s : Sent
   pub main : Wrote result a.main b.main (wire_on u.own s)
   pub side : Wrote result a.side b.side (wire_off u.own s)
 
--- why a message is not written: its writer failed, or there was no memory for it, and then it was not handed over
+-- why a message is not written: its writer failed, or there was no memory for it, and then the server did not give it
+-- to its writer
 abbrev pub FailsAt : {E D : Type 0} → Voice E D → Point E D → Point E D → Sent → ServeFault → Type 0
 FailsAt u a b s Fault.Write = HandsOne u a b s (Err Fault.Write)
 FailsAt u a b s Fault.NoMemory = b ≡ a
 FailsAt u a b s fault = ⊥
 
--- they were handed over up to one that is not written; those before it are written whole
+-- the server gave them to their writers up to one that is not written; those before it are written whole
 pub record HandsUpTo {E D : Type 0} (u : Voice E D) (a b : Point E D) (said : List Sent) (fault : ServeFault)
     : Type 0 where
   pub whole : List Sent

@@ -3,15 +3,15 @@ use Rattle.std.specs.Prelude.{◌≡◌, ◌≢◌, ◌⊎◌, ℕ, ◌+◌, Opt
 use Rattle.sw_session.specs.declared.servers.source.Unread.{Unread}
 use Rattle.sw_session.specs.declared.servers.source.Unread.TheVariants.{Paused, Failed}
 
--- a read that gave bytes comes to just these, and one that gave an error to none
+-- a read that gave bytes gives just these, and one that gave an error none
 abbrev pub GivesBytes : {E : Type 0} → Result ℕ E → Option (Result ℕ Unread) → Type 0
 GivesBytes (Ok n) told = told ≡ Some (Ok n)
 GivesBytes (Err e) (Some (Ok n)) = ⊥
 GivesBytes (Err e) (Some (Err why)) = Unit {0}
 GivesBytes (Err e) None = Unit {0}
 
--- What an error of this kind comes to: interrupted, the read is asked again; one of the two kinds of a time limit ended
--- it; it failed.
+-- What an error of this kind means: interrupted, the server reads again; one of the two kinds of a time limit ended the
+-- read; it failed.
 pub record ComesTo {K : Type 0} (interrupted timed_out would_block kind : K)
     (told : Option (Result ℕ Unread)) : Type 0 where
   pub again : kind ≡ interrupted → told ≡ None
@@ -22,7 +22,7 @@ pub record ComesTo {K : Type 0} (interrupted timed_out would_block kind : K)
 abbrev pub IsLedTo : {A : Type 0} → (A → A → Type 0) → A → Type 0
 IsLedTo step new = (old : _) × step old new
 
--- time limits ended so many reads more: where their count is known it is by so many higher, and else it stays unknown
+-- time limits ended this many reads more: their count rises by as many where it is known, and else it stays unknown
 abbrev pub PausesBy : Option ℕ → Option ℕ → ℕ → Type 0
 PausesBy old new n = new ≡ option_map (λ m. m + n) old
 

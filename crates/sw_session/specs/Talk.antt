@@ -13,10 +13,11 @@ use Rattle.sw_lex.specs.declared.command.Plain.{Plain}
 use Rattle.sw_lex.specs.Unit.{UnitSeen}
 use Rattle.sw_lex.specs.Meaning.{Nodes, Resolves}
 use Rattle.sw_macro.specs.Table.{Table}
-use Rattle.sw_trigger.specs.Counts.{readings_of}
 use Rattle.sw_macro.specs.Expansion.{calls, Expands}
 use Rattle.sw_verify.specs.declared.refusal.Refusal.{Refusal}
-use Rattle.sw_verify.specs.Check.{IsReady, IsRefusedScan, error_of}
+use Rattle.sw_verify.specs.Check.{error_of}
+use Rattle.sw_verify.specs.Setup.{readings_of}
+use Rattle.sw_verify.specs.Ready.{IsReady, IsRefusedScan}
 use Rattle.sw_core.specs.Action.{Effect, IsOfMacros, Initiates, Resets, ReadsOut, Action, AtOnce, BetweenScans, AfterScan}
 use Rattle.sw_core.specs.Action.{action_of}
 use Rattle.sw_core.specs.Event.{next_number}
@@ -75,8 +76,8 @@ abbrev pub Queues : Sid → ScpiError → List Entry → SessionAnswer → List 
 Queues sid e (Asked a r ∷ trace) final rest = (a ≡ Ask.Fault sid e) × (final ≡ after_queueing e r) × (rest ≡ trace)
 Queues sid e trace final rest = ⊥
 
--- The session asks an ask that was held `turn` times. While it is held the session waits without a limit and asks it
--- again. It gives up, with -221, where the wait ends with Over, or at the last turn.
+-- The session makes an ask that was held `turn` times. While the desk holds it, the session waits without a limit and
+-- makes it again. It gives up, with -221, where the wait ends with Over, or at the last turn.
 abbrev pub Settles : Sid → ℕ → SessionAsk → List Entry → SessionAnswer → List Entry → Type 0
 Settles sid turn ask (Asked a (Hold b) ∷ Waited None Over ∷ trace) final rest =
     (a ≡ ask) × Queues sid SettingsConflict trace final rest

@@ -9,7 +9,7 @@ use Rattle.sw_session.specs.declared.desk.Wake.{Wake}
 use Rattle.sw_session.specs.declared.desk.Wake.TheVariants.{Again, Over}
 
 -- One call of a desk: what it was asked and answered; for how many milliseconds at most a wait was to last, and how it
--- ended; which session was looked at, and what was seen; or of which session it was noted whether a message is
+-- ended; the session that was looked at, and what was seen; or the session for which it was noted whether a message is
 -- available.
 pub data Entry : Type 0 where
   Asked : SessionAsk → SessionAnswer → Entry
@@ -22,7 +22,7 @@ abbrev pub Leads : {D : Type 0} → (D → Entry → D → Type 0) → D → Lis
 Leads passes old [] new = new ≡ old
 Leads passes old (e ∷ trace) new = (mid : _) × passes old e mid × Leads passes mid trace new
 
--- an ask that is held, or can't be numbered, is handed back as it came
+-- the desk gives back as it came an ask that it holds, or that can't be numbered
 abbrev pub HandsBackAsk : SessionAsk → SessionAnswer → Type 0
 HandsBackAsk ask (Hold back) = back ≡ ask
 HandsBackAsk ask (Worn back) = back ≡ ask

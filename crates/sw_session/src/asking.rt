@@ -107,7 +107,7 @@ fn carry_plain<D: Desk>(
     }
 }
 
-/// Answers what a macro command came to, and queues its refusal.
+/// Answers with the outcome of a macro command, and queues its refusal.
 #[inline(never)]
 fn report<D: Desk>(desk: &mut D, sid: Sid, outcome: Outcome) -> SessionAnswer
     ensures { Led D.passes desk.old desk.new (λ t rest. Reports sid outcome t result rest) }
@@ -118,7 +118,7 @@ fn report<D: Desk>(desk: &mut D, sid: Sid, outcome: Outcome) -> SessionAnswer
     }
 }
 
-/// Asks for a reset; one that is done switches macros off.
+/// Asks for a reset. A reset that is done switches macros off.
 #[inline(never)]
 fn reset<D: Desk>(desk: &mut D, sid: Sid, macros: &mut Macros, answered: bool) -> SessionAnswer
     ensures asked { Led D.passes desk.old desk.new (λ t rest.
@@ -171,7 +171,7 @@ fn due_of(told: &SessionAnswer) -> Option<(u64, u64)>
     }
 }
 
-/// Asks for the readings of a scan that was started. Any other answer stands.
+/// Asks for the readings of a scan that was started. It gives any other answer back as it is.
 fn read_back<D: Desk>(
     desk: &mut D,
     sid: Sid,
@@ -193,7 +193,8 @@ fn read_back<D: Desk>(
     }
 }
 
-/// Makes the plan of a snapshot and asks to start it, or queues why there is none. Any other answer stands.
+/// Makes the plan of a snapshot and asks to start it, or queues why there is none. It gives any other answer back as it
+/// is.
 fn plan<D: Desk>(desk: &mut D, sid: Sid, alloc: Global, told: SessionAnswer) -> SessionAnswer
     ensures { Led D.passes desk.old desk.new (λ t rest. Plans sid told t result rest) }
 {
@@ -243,20 +244,28 @@ fn settle_unit<D: Desk>(
     }
 }
 
-/// Puts what an ask that is held comes to in the place of its answer.
+/// Waits out an ask that is held, and puts its outcome in the place of its answer.
 #[inline(never)]
 fn outlast<D: Desk>(desk: &mut D, sid: Sid, answer: &mut SessionAnswer)
     ensures { (ask : SessionAsk) → answer.old ≡ Hold ask → Led D.passes desk.old desk.new (λ t rest.
         Settles sid 0 ask (Asked ask (Hold ask) ∷ t) answer.new rest) }
 {
     match replace(answer, SessionAnswer::Stranger) {
-        SessionAnswer::Hold(held) => *answer = wait_out(desk, sid, held),
-        told => *answer = told,
+        SessionAnswer::Hold(held) => put(wait_out(desk, sid, held), answer),
+        told => put(told, answer),
     }
 }
 
-/// Waits until an ask that was held once isn't held any more. After each wait it is asked again, unless the desk says
-/// that it is held still.
+/// Puts an answer into its place.
+#[inline(always)]
+pub fn put(told: SessionAnswer, answer: &mut SessionAnswer)
+    ensures { answer.new ≡ told }
+{
+    *answer = told;
+}
+
+/// Waits until an ask that the desk held once is no longer held. After each wait it makes the ask again, unless the
+/// desk says that it still holds it.
 #[inline(never)]
 fn wait_out<D: Desk>(desk: &mut D, sid: Sid, held: SessionAsk) -> SessionAnswer
     ensures { Led D.passes desk.old desk.new (λ t rest.
@@ -275,7 +284,7 @@ fn wait_out<D: Desk>(desk: &mut D, sid: Sid, held: SessionAsk) -> SessionAnswer
             }
         }
     }
-    // Whatever the last wait ends with, the ask is given up.
+    // However the last wait ends, it gives the ask up.
     let _ = desk.wait(None);
     drop(ask);
     queue(desk, sid, ScpiError::SettingsConflict)
@@ -290,7 +299,7 @@ pub fn queue<D: Desk>(desk: &mut D, sid: Sid, error: ScpiError) -> SessionAnswer
     after_queueing(error, answer)
 }
 
-/// What a queued error comes to: a refusal, unless the session is none any more.
+/// The answer after an error was queued: a refusal, unless the session is none any more.
 fn after_queueing(error: ScpiError, answer: SessionAnswer) -> SessionAnswer
     ensures { result ≡ after_queueing error answer }
 {

@@ -21,7 +21,7 @@ pub struct Mark {
     pub mav: bool,
 }
 
-/// What an ask is to change about who has joined.
+/// How an ask is to change which sessions have joined.
 #[derive(Clone, Copy, Debug)]
 pub enum Seating {
     /// A session is to begin.
@@ -32,7 +32,7 @@ pub enum Seating {
     Stays,
 }
 
-/// What the ask is to change about who has joined.
+/// How the ask is to change which sessions have joined.
 pub fn seating_of(ask: &SessionAsk) -> Seating
     ensures { result ≡ seating_of ask.now }
 {
@@ -43,7 +43,7 @@ pub fn seating_of(ask: &SessionAsk) -> Seating
     }
 }
 
-/// For each session number who has joined under it, and whether a message is available for that session.
+/// For each session number the session that has joined under it, and whether a message is available for that session.
 #[derive(Drop)]
 pub struct Available {
     notes: [Option<Mark>; PLACES],
@@ -62,7 +62,7 @@ impl Model for Available {
 }
 
 impl Available {
-    /// Nobody has joined.
+    /// No session has joined.
     pub fn new() -> Self
         ensures { result ≡ no_notes }
     {
@@ -71,7 +71,7 @@ impl Available {
         }
     }
 
-    /// Who has joined under a number, and whether a message is available for that session.
+    /// The session that has joined under a number, and whether a message is available for it.
     fn mark(&self, number: u8) -> Option<Mark>
         ensures { result ≡ slot_at self.now number }
     {
@@ -82,7 +82,7 @@ impl Available {
         notes[number as usize - 1]
     }
 
-    /// Sets who has joined under the session's number.
+    /// Sets the session that has joined under this number.
     fn set(&mut self, number: u8, mark: Option<Mark>)
         ensures { self.new ≡ with_mark self.old number mark }
     {
@@ -111,7 +111,7 @@ impl Available {
         }
     }
 
-    /// Notes whether a message is available for the session. Of one that isn't joined now nothing is noted.
+    /// Notes whether a message is available for the session, if it is joined now.
     pub fn note(&mut self, sid: Sid, mav: bool)
         ensures { self.new ≡ with_note self.old sid mav }
     {
@@ -139,7 +139,7 @@ impl Available {
         }
     }
 
-    /// Follows who joins and who leaves, by an ask and its answer.
+    /// Follows a session that joins or leaves, by an ask and its answer.
     pub fn follow(&mut self, seating: Seating, answer: &SessionAnswer)
         ensures { self.new ≡ followed self.old answer.now seating }
     {

@@ -88,8 +88,8 @@ impl<R: Relay, M: Meter> CoreDesk<R, M> {
         false
     }
 
-    /// Keeps work for a wait. Where there is no memory for that, the oldest piece of all is carried out at once in its
-    /// place, and what comes of that is kept in turn.
+    /// Keeps work for a wait. Where there is no memory for that, it carries the oldest piece of all out at once in its
+    /// place, and keeps in turn what that brings.
     #[inline(always)]
     fn keep(&mut self, work: Option<Work<M>>)
         ensures { IsKept self.old (work_seen work) self.new }
@@ -172,7 +172,7 @@ impl<R: Relay, M: Meter> CoreDesk<R, M> {
         self.work.take()
     }
 
-    /// Carries a piece out and tells the mainframe, which gives what comes next.
+    /// Carries a piece out and reports it to the mainframe, which gives the next piece.
     #[inline(never)]
     fn carry(&mut self, piece: Work<M>) -> Option<Work<M>>
         ensures { IsCarried self.old (piece_seen piece) (work_seen result) self.new }
@@ -223,14 +223,14 @@ impl<R: Relay, M: Meter> CoreDesk<R, M> {
             .ask_unit(self.alloc, sid, command, answered, answer, work);
     }
 
-    /// Follows who joins and who leaves.
+    /// Follows a session that joins or leaves.
     fn follow(&mut self, seating: Seating, answer: &SessionAnswer)
         ensures { self.new ≡ record self.old { available = followed self.old.available answer.now seating } }
     {
         self.available.follow(seating, answer);
     }
 
-    /// Carries a piece out and tells the mainframe of it. What comes next is left in `work`.
+    /// Carries a piece out and reports it to the mainframe. It leaves the next piece in `work`.
     #[inline(always)]
     fn carry_out(&mut self, piece: Work<M>, work: &mut Option<Work<M>>)
         requires empty { work.old ≡ None }

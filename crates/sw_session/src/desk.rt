@@ -1,14 +1,15 @@
 //! What takes a session's asks.
 
+use crate::asking::put;
 use sw_core::{SessionAnswer, SessionAsk, Sid};
 use sw_lex::Command;
 
 /// What a wait ends with.
 #[derive(Clone, Copy, Debug, PartialEq, Eq)]
 pub enum Wake {
-    /// Something may have changed: what was held is asked again. So many milliseconds of the wait's limit are left.
+    /// Something may have changed: the session asks again. This many milliseconds of the wait's limit are left.
     Again(Option<u32>),
-    /// Nothing will change, or the time is up: what was held is given up.
+    /// Nothing will change, or the time is up: the session gives the held ask up.
     Over,
 }
 
@@ -33,7 +34,7 @@ pub trait Desk {
     /// The desk may go from one state to another by this entry.
     ghost passes: { Self → Entry → Self → Type 0 };
 
-    /// Answers an ask. What is held, or can't be numbered, is handed back as it came.
+    /// Answers an ask. It gives back as it came an ask that it holds, or that can't be numbered.
     fn ask(&mut self, ask: SessionAsk) -> SessionAnswer
         ensures passes { passes self.old (Asked ask result) self.new }
         ensures back { HandsBackAsk ask result };
@@ -43,7 +44,7 @@ pub trait Desk {
         ensures passes { passes self.old (Asked ask answer.new) self.new }
         ensures back { HandsBackAsk ask answer.new }
     {
-        *answer = self.ask(ask);
+        put(self.ask(ask), answer);
     }
 
     /// Answers the ask for the command of a unit as `ask_into` does. `answered` says whether its message has answered
@@ -63,7 +64,7 @@ pub trait Desk {
         false
     }
 
-    /// Waits until an ask that was held may be asked again, for so many milliseconds at most where there is a limit.
+    /// Waits until a held ask may be made again, for at most `limit_ms` milliseconds where there is a limit.
     fn wait(&mut self, limit_ms: Option<u32>) -> Wake
         ensures passes { passes self.old (Waited limit_ms result) self.new }
         ensures left { LeavesOf limit_ms result };

@@ -20,10 +20,10 @@ pub fn talk_is_determined()
     one_expansion();
 }
 
-/// A law: over a mainframe the message, the macros, what is measured and what comes of the cards determine what is
-/// written, the macros after it and the desk that is left but for its room, where no growth is refused. What comes of
-/// the cards: in which calls one fails, how often each has failed after such a call, and whether a card that is asked
-/// says that it is sure of its relays.
+/// A law: over a mainframe the message, the macros, what is measured and what the cards do determine what is written,
+/// the macros after it and the desk that is left but for its room, where no growth is refused. What the cards do: in
+/// which calls one fails, how often each has failed after such a call, and whether a card that is asked says that it is
+/// sure of its relays.
 pub fn core_talk_is_determined()
     ensures { CoreTalkIsDetermined }
 {
@@ -31,8 +31,8 @@ pub fn core_talk_is_determined()
     talk_is_determined();
 }
 
-/// A law: over a mainframe what is measured and what comes of the cards determine the desk that a rest leaves but for
-/// its room, where no growth is refused.
+/// A law: over a mainframe what is measured and what the cards do determine the desk that a rest leaves but for its
+/// room, where no growth is refused.
 pub fn core_rest_is_determined()
     ensures { CoreRestIsDetermined }
 {
@@ -47,8 +47,8 @@ pub fn work_is_done_in_order()
 {}
 
 /// A law: what a `CoreDesk` does over its mainframe is a run, in which a card failed exactly where a count of failures
-/// tells so: its events are, in their order, each ask of the sessions with its answer, and what is told of the work that
-/// was carried out.
+/// says so. Its events are, in their order, each ask of the sessions with its answer, and each report of work that was
+/// carried out.
 pub fn core_desk_runs()
     ensures { CoreDeskRuns }
 {}

@@ -12,11 +12,11 @@
 //! `core_rest_is_determined`), where no growth was refused. A desk's work is carried out in the order in which it came
 //! (`work_is_done_in_order`). What a `CoreDesk` does is a run of its mainframe (`core_desk_runs`).
 //!
-//! `Engine` is one of the two channels of a HiSLIP session (IVI-6.1), and its contract what is asked and said to each
-//! message (`TakesMessage`). `serve_channel` serves a channel over any reader, two writers and any desk: what is
-//! written is what the engine says to the messages that stand in what was read, however it was cut (`ServesChannel`). A
-//! reader (`Source`) counts the reads that a time limit ended, where it can; then a server gives up after as many bytes
-//! and such reads as it has turns, and not before.
+//! `Engine` is one of the two channels of a HiSLIP session (IVI-6.1), and its contract is what it asks and says to each
+//! message (`TakesMessage`). `serve_channel` serves a channel over any reader, two writers and any desk: it writes what
+//! the engine says to the messages in what it read, however that was cut (`ServesChannel`). A reader (`Source`) counts
+//! the reads that a time limit ended, where it can; then a server gives up after as many bytes and such reads as it has
+//! turns, and not before.
 //!
 //! Not promised: that a desk ever answers anything but a hold, and that memory is there.
 #![tactic(auto)]

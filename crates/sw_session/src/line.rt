@@ -17,7 +17,7 @@ use sw_core::{AnswerForm, AnswerText, ReadingsText};
 /// For how many bytes a line takes memory at least.
 const ROOM: usize = 64;
 
-/// Takes memory for a short answer, as what is told of a register or of one error, before it is asked for.
+/// Takes memory for a short answer, of a register or of one error, before the session asks for it.
 #[inline(always)]
 pub fn make_room(out: &mut Vec<u8>) -> Result<(), AllocError>
     ensures same { out.new.items ≡ out.old.items }
@@ -27,7 +27,7 @@ pub fn make_room(out: &mut Vec<u8>) -> Result<(), AllocError>
 }
 
 /// Adds an answer to those that are written: before it a semicolon, unless it is the first, and after it a line feed.
-/// A growth beyond `ANSWER_BYTES` is refused as one for which there is no memory.
+/// It refuses a growth beyond `ANSWER_BYTES` as one for which there is no memory.
 #[inline(always)]
 pub fn join(out: &mut Vec<u8>, text: AnswerText) -> Result<(), AllocError>
     ensures ok { OnOk result (JoinsLine out.old.items text out.new.items) }
@@ -63,7 +63,7 @@ fn join_seconds(out: &mut Vec<u8>, micros: u64) -> Result<(), AllocError>
     add(out, &buffer[..end])
 }
 
-/// Adds what is told of an entry of the error queue, or that it has none, to the answers that are written.
+/// Adds the text of an entry of the error queue, or that it has none, to the answers that are written.
 fn join_entry(out: &mut Vec<u8>, error: Option<ScpiError>) -> Result<(), AllocError>
     ensures ok { OnOk result (JoinsLine out.old.items (entry_told error) out.new.items) }
     ensures err { OnErr result (out.new.items ≡ out.old.items) }
@@ -126,8 +126,8 @@ fn join_readings(out: &mut Vec<u8>, readings: ReadingsText) -> Result<(), AllocE
     join_bytes(out, readings.text()?)
 }
 
-/// Whether there is room for one more answer of so many bytes beside those that are written, with the byte that goes
-/// before or after it.
+/// Whether there is room for one more answer of `size` bytes beside those that are written, with the byte before or
+/// after it.
 fn has_room(out: &[u8], size: usize) -> bool
     ensures { result ≡ nat_lt (length out.now + size) most_answer_bytes }
 {
@@ -148,8 +148,8 @@ fn add(out: &mut Vec<u8>, text: &[u8]) -> Result<(), AllocError>
     Ok(())
 }
 
-/// Opens the line for an answer of so many bytes and its line feed: a semicolon stands in place of the last line feed,
-/// and there is room for them.
+/// Opens the line for an answer of `size` bytes and its line feed: it puts a semicolon in the place of the last line
+/// feed, and makes room for them.
 #[inline(always)]
 fn open(out: &mut Vec<u8>, size: usize) -> Result<(), AllocError>
     requires { length out.old.items + size < most_answer_bytes }

@@ -4,16 +4,16 @@ ghost use Rattle.std.specs.Prelude.{◌≡◌, ◌++◌, ◌∷◌, [], List, �
 ghost use Rattle.sw_lex.specs.declared.command.Command.{Command};
 ghost use Rattle.sw_macro.specs.Table.{labels};
 ghost use Rattle.sw_core.specs.Answers.{yes_or_no};
-ghost use Rattle.sw_session.specs.Macros.{block_of, labels_text, row_of, TellsMacroText, TellsBody, DefinesMacro};
+ghost use Rattle.sw_session.specs.Macros.{labels_text, row_of, TellsMacroText, TellsBody, DefinesMacro};
 ghost use Rattle.sw_session.specs.Macros.{Removes, ActsOnMacros};
 
 use std::alloc::{AllocError, Global};
-use sw_base::{ScpiError, Sequence, print_number};
+use sw_base::{ScpiError, Sequence};
 use sw_core::AnswerText;
-use sw_lex::{AllMacros, Definition, MacroCommand};
+use sw_lex::{AllMacros, Definition, MacroCommand, block_of};
 use sw_macro::Macros;
 
-/// What a command comes to: its answer, if it has one, or its refusal.
+/// The outcome of a command: its answer, if it has one, or its refusal.
 pub type Outcome = Result<Option<AnswerText>, ScpiError>;
 
 /// What a command of all macros does.
@@ -70,7 +70,7 @@ fn tell_body(alloc: Global, macros: &Macros, label: &[u8]) -> Outcome
     ensures { TellsBody label.now macros.now result }
 {
     let body = macros.body(label)?;
-    Ok(Some(AnswerText::bytes(block(alloc, body)?)))
+    Ok(Some(AnswerText::bytes(block_of(alloc, body)?)))
 }
 
 /// `*LMC?`
@@ -89,20 +89,6 @@ fn tell_enabled(alloc: Global, macros: &Macros) -> Outcome
     Ok(Some(AnswerText::bytes(Sequence::new(text))))
 }
 
-/// A definite block of these bytes (IEEE 488.2, 8.7.9).
-fn block(alloc: Global, bytes: &[u8]) -> Result<Sequence<u8>, AllocError>
-    ensures { IfOk result (λ text. text ≡ block_of bytes.now) }
-{
-    let mut size = [0; 32];
-    let digits = print_number(bytes.len() as u64, &mut size);
-    let mut text = Vec::new(alloc);
-    text.push(b'#')?;
-    text.push(b'0' + digits as u8)?;
-    text.extend_from_slice(&size[..digits])?;
-    text.extend_from_slice(bytes)?;
-    Ok(Sequence::new(text))
-}
-
 /// The labels in order of definition, each in double quotes, joined by commas; `""` for none.
 fn labels_text(alloc: Global, macros: &Macros) -> Result<Sequence<u8>, AllocError>
     ensures { IfOk result (λ text. text ≡ labels_text (labels macros.now.macros)) }
@@ -119,7 +105,7 @@ fn labels_text(alloc: Global, macros: &Macros) -> Result<Sequence<u8>, AllocErro
     Ok(Sequence::new(text))
 }
 
-/// Adds a label in double quotes, behind a comma where labels stand before it.
+/// Adds a label in double quotes, behind a comma where there are labels before it.
 fn add_label(text: &mut Vec<u8>, label: &[u8]) -> Result<(), AllocError>
     ensures { OnOk result ((before : List (List ℕ)) → text.old.items ≡ row_of before
         → text.new.items ≡ row_of (before ++ label.now ∷ [])) }

@@ -53,13 +53,13 @@ impl Talker {
     /// Talks over one program message: asks its commands, one unit after another, and gives the answers, joined by
     /// semicolons and ended by a line feed, or nothing (IEEE 488.2, 6.3 and 8.4).
     ///
-    /// One line feed at the message's end is dropped. A message of more than `MESSAGE_BYTES` without it is dropped
-    /// whole, with error -363. A unit that calls a macro is replaced by its expansion, whose units are final. An error
-    /// from -100 to -199 drops the rest of the message, any other its unit alone. Where the desk answers that the
-    /// session is being cleared, is joined no more, or that nothing more can be numbered, nothing is written. An answer
-    /// or an expansion that finds no memory is dropped, with error -225, as is an answer with which the line would have
-    /// more than `ANSWER_BYTES`. Where there is no memory for it, one register or one error that a query would take out
-    /// of the status isn't asked for, so that it stays.
+    /// It drops one line feed at the message's end. It drops a message that has more than `MESSAGE_BYTES` without it as
+    /// a whole, with error -363. Its macro's expansion replaces a unit that calls a macro, and the expansion's units
+    /// are final. An error from -100 to -199 drops the rest of the message, any other its unit alone. Where the desk
+    /// answers that the session is being cleared, is joined no more, or that nothing more can be numbered, nothing is
+    /// written. It drops an answer or an expansion that finds no memory, with error -225, and likewise an answer with
+    /// which the line would have more than `ANSWER_BYTES`. Where there is no memory for one register or one error that
+    /// a query would take out of the status, it doesn't ask for that, so that it stays.
     pub fn message<D: Desk>(&mut self, text: &[u8], desk: &mut D) -> Vec<u8>
         ensures talked { Talked D.passes self.old.sid (state desk.old self.old.macros)
             text.now result.items (state desk.new self.new.macros) }
@@ -70,7 +70,7 @@ impl Talker {
         answers
     }
 
-    /// Has the answers to the next message stand in this memory, whatever is in it.
+    /// Uses this memory for the answers to the next message, and drops what is in it.
     pub fn reuse(&mut self, line: Vec<u8>)
         ensures sid { self.new.sid ≡ self.old.sid }
         ensures macros { self.new.macros ≡ self.old.macros }
@@ -215,10 +215,12 @@ impl Talker {
         let answered = has_answers(out);
         let mut answer = SessionAnswer::Stranger;
         ask_command(desk, self.sid, command, answered, &mut answer);
-        conclude(desk, self.sid, &mut answer, out)
+        let after = conclude(desk, self.sid, &mut answer, out);
+        drop(answer);
+        after
     }
 
-    /// Serves a unit that is this command, for whose answer there is no memory: so nothing is read out.
+    /// Serves a unit that is this command. There is no memory for its answer, so that nothing is read out.
     #[inline(never)]
     fn serve_unread<D: Desk>(
         &mut self,
@@ -235,7 +237,9 @@ impl Talker {
     {
         drop(command);
         let mut answer = queue(desk, self.sid, ScpiError::OutOfMemory);
-        conclude(desk, self.sid, &mut answer, out)
+        let after = conclude(desk, self.sid, &mut answer, out);
+        drop(answer);
+        after
     }
 
     /// Serves a unit that is this command, one of the session's own.
@@ -258,7 +262,9 @@ impl Talker {
             answered,
         );
         let mut answer = answer;
-        conclude(desk, self.sid, &mut answer, out)
+        let after = conclude(desk, self.sid, &mut answer, out);
+        drop(answer);
+        after
     }
 
     /// Serves a unit that is refused by this error.
@@ -276,7 +282,9 @@ impl Talker {
         ensures same { self.new.sid ≡ self.old.sid }
     {
         let mut answer = queue(desk, self.sid, error);
-        conclude(desk, self.sid, &mut answer, out)
+        let after = conclude(desk, self.sid, &mut answer, out);
+        drop(answer);
+        after
     }
 }
 
@@ -362,7 +370,7 @@ fn without_line_feed(text: &[u8]) -> &[u8]
     }
 }
 
-/// How a message goes on after a unit.
+/// How a message continues after a unit.
 #[derive(Clone, Copy, Debug, PartialEq, Eq)]
 pub enum AfterUnit {
     /// With the next unit.
@@ -390,8 +398,8 @@ fn lacks_room(command: &Command, out: &mut Vec<u8>) -> bool
     reads_out(command) && make_room(out).is_err()
 }
 
-/// Adds a unit's answer to those that are written, and takes its text out. Where there is no room or no memory for it,
-/// it is dropped and that error queued.
+/// Takes the text out of a unit's answer, and adds it to those that are written. Where there is no room or no memory
+/// for it, it drops it and queues that error.
 #[inline(always)]
 fn conclude<D: Desk>(
     desk: &mut D,
@@ -414,15 +422,17 @@ fn conclude<D: Desk>(
     }
 }
 
-/// How a message goes on after an answer, which is let go.
+/// How a message continues after an answer, which is dropped.
 #[inline(never)]
 fn go_on(answer: SessionAnswer) -> AfterUnit
     ensures { result ≡ after_unit answer }
 {
-    after_unit(&answer)
+    let after = after_unit(&answer);
+    drop(answer);
+    after
 }
 
-/// How a message goes on after an answer.
+/// How a message continues after an answer.
 fn after_unit(answer: &SessionAnswer) -> AfterUnit
     ensures { result ≡ after_unit answer.now }
 {

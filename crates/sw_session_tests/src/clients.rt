@@ -43,7 +43,7 @@ pub fn bench(alloc: Global) -> Option<Bench> {
     None
 }
 
-/// What stands in a message.
+/// The fields of a message.
 #[derive(Clone, Copy)]
 pub struct Fields<'a> {
     kind: Kind,
@@ -129,7 +129,7 @@ pub fn is_answer(said: &Said, channel: Channel, wanted: Fields<'_>, ends: bool) 
     }
 }
 
-/// Whether these two are said, each on its channel, and the channel goes on.
+/// Whether these two are said, each on its channel, and the channel continues.
 fn is_pair(said: &Said, first: (Channel, Fields<'_>), second: (Channel, Fields<'_>)) -> bool {
     match said.out.as_slice() {
         [one, two] => {
@@ -302,7 +302,7 @@ impl Client {
         }
     }
 
-    /// Whether a service request is told with this byte.
+    /// Whether the channel says a service request with this byte.
     pub fn notices<D: Desk>(&mut self, desk: &mut D, byte: u8) -> bool {
         match self.side.session() {
             Some(sid) => {
@@ -313,7 +313,7 @@ impl Client {
         }
     }
 
-    /// Whether no service request is told.
+    /// Whether the channel says no service request.
     pub fn notices_none<D: Desk>(&mut self, desk: &mut D) -> bool {
         match self.side.session() {
             Some(sid) => self.side.notice(desk.poll(sid)).is_none(),

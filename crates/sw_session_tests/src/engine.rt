@@ -10,7 +10,7 @@ use sw_core::{SessionAnswer, SessionAsk, Sid};
 use sw_hislip::Kind;
 use sw_session::{Channel, Desk, Engine, View, Wake};
 
-/// What a client's `*IDN?` is answered, whole and cut to the size that it told.
+/// The answer to a client's `*IDN?`, whole and cut to the size that it sent.
 fn identifies<D: Desk>(client: &mut Client, desk: &mut D) -> bool {
     let whole = carrying(Kind::DataEnd, 0, FIRST, IDENTITY);
     let size = carrying(
@@ -67,7 +67,7 @@ fn fails_at_first<D: Desk>(
     is_so
 }
 
-/// Whether a client that joined by its first connection alone is told of this fault.
+/// Whether a client that joined by its first connection alone gets this fault.
 fn fails_without_second<D: Desk>(alloc: Global, desk: &mut D, number: u32) -> bool {
     let mut client = Client::new(alloc);
     let it = carrying(Kind::Data, 0, FIRST, b"*ID");
@@ -78,7 +78,7 @@ fn fails_without_second<D: Desk>(alloc: Global, desk: &mut D, number: u32) -> bo
     is_so
 }
 
-/// Whether a client that joined is told of a fault where it begins once more, on either connection.
+/// Whether a client that joined gets a fault where it begins once more, on either connection.
 fn fails_where_it_begins_again<D: Desk>(alloc: Global, desk: &mut D, number: u32) -> bool {
     let mut client = Client::new(alloc);
     let first = carrying(Kind::Initialize, 0, 0x0100_5858, b"hislip0");
@@ -147,7 +147,7 @@ fn a_seventeenth_client_is_one_too_many(rt: HostRuntime) -> Result<(), Fail> {
     Ok(())
 }
 
-/// Whether an answer that wasn't taken is dropped, and one that was is not.
+/// Whether an answer that wasn't taken is dropped, and a taken one is not.
 fn interrupts<D: Desk>(client: &mut Client, desk: &mut D) -> bool {
     client.note_answer(desk);
     let it = carrying(Kind::DataEnd, 0, FIRST + 4, b"ROUT:CLOS (@1!1)");
@@ -222,8 +222,8 @@ fn two_clients_lock_and_release(rt: HostRuntime) -> Result<(), Fail> {
     Ok(())
 }
 
-/// A desk at whose waits the session that holds the lock sends its next message, and that of the session that waits
-/// serves its second connection.
+/// A desk that plays a turn at each wait: the session that holds the lock sends its next message, or the session that
+/// waits serves its second connection.
 #[derive(Drop)]
 struct Played<D: Desk> {
     desk: D,
@@ -245,7 +245,7 @@ impl<D: Desk> Played<D> {
         }
     }
 
-    /// Whether the session that waits is told its status at once.
+    /// Whether the session that waits gets its status at once.
     fn tells_status(&mut self) -> bool {
         let query = plain(Kind::AsyncStatusQuery, 0, 0);
         let status = plain(Kind::AsyncStatusResponse, 0, 0);
@@ -287,7 +287,7 @@ impl<D: Desk> Desk for Played<D> {
     }
 }
 
-/// Two sessions, of which the first holds the exclusive lock.
+/// Two sessions. The first has the exclusive lock.
 fn lock_out<D: Desk>(a: &mut Client, b: &mut Client, desk: &mut D) -> bool {
     a.joins(desk, 1) && b.joins(desk, 2) && a.locks(desk, b"", 1)
 }
@@ -368,7 +368,7 @@ fn asks_for_service<D: Desk>(client: &mut Client, desk: &mut D) -> bool {
     is_so && client.shows(desk, 0, 20) && client.shows(desk, TAKEN, 4) && !client.has_message(desk)
 }
 
-/// Whether that is so for the second of two sessions, and the first is told of the same request, without MAV.
+/// Whether that is so for the second of two sessions, and the first gets the same request, without MAV.
 fn joins_and_asks_for_service<D: Desk>(alloc: Global, desk: &mut D) -> bool {
     let mut other = Client::new(alloc);
     let mut client = Client::new(alloc);
@@ -395,7 +395,7 @@ fn an_error_asks_for_service_once(rt: HostRuntime) -> Result<(), Fail> {
     Ok(())
 }
 
-/// Whether a device clear drops what came of program messages, before it and during it, and the answer.
+/// Whether a device clear drops the part that has come of program messages, before it and during it, and the answer.
 fn clears<D: Desk>(client: &mut Client, desk: &mut D) -> bool {
     let clear = plain(Kind::AsyncDeviceClear, 0, 0);
     let complete = plain(Kind::DeviceClearComplete, 0, 0);
@@ -442,7 +442,7 @@ fn triggers<D: Desk>(client: &mut Client, desk: &mut D) -> bool {
         )
 }
 
-/// Whether faults of single messages are told, and the next message is served.
+/// Whether the channel reports faults of single messages, and serves the next message.
 fn tells_faults<D: Desk>(client: &mut Client, desk: &mut D) -> bool {
     let vendor = plain(Kind::Vendor(200), 0, 0);
     let undefined = plain(Kind::Undefined(26), 0, 0);

@@ -76,7 +76,7 @@ impl Read for Halves<'_> {
     }
 }
 
-/// A message on the wire. Its header may tell of another length than its payload has.
+/// A message on the wire. Its header may claim another length than its payload has.
 #[derive(Clone, Copy)]
 pub struct Wire<'a> {
     prologue: [u8; 2],
@@ -103,7 +103,7 @@ pub fn plain(kind: u8) -> Wire<'static> {
     line(kind, 0, 0, b"")
 }
 
-/// A message whose header tells of a payload of so many bytes.
+/// A message with a header that claims a payload of `length` bytes.
 pub fn claims(kind: u8, length: u64, payload: &[u8]) -> Wire<'_> {
     Wire {
         prologue: *b"HS",
@@ -115,7 +115,7 @@ pub fn claims(kind: u8, length: u64, payload: &[u8]) -> Wire<'_> {
     }
 }
 
-/// A message whose header begins with other bytes.
+/// A message with a header that begins with other bytes.
 pub fn malformed(prologue: [u8; 2], kind: u8) -> Wire<'static> {
     Wire {
         prologue,
@@ -169,7 +169,7 @@ pub fn quiet(sent: Wire<'_>) -> Row<'_> {
     whole(sent, None)
 }
 
-/// A message whose header is refused by this.
+/// A message with a header that the server refuses with this.
 pub fn refused<'a>(sent: Wire<'a>, said: Wire<'a>) -> Row<'a> {
     Row {
         sent,
@@ -221,7 +221,7 @@ pub fn sent_by(alloc: Global, rows: &[Row<'_>]) -> Option<Vec<u8>> {
     if is_so { Some(out) } else { None }
 }
 
-/// What is said once so many bytes have come.
+/// What is said once `read` bytes have come.
 pub fn said_after(alloc: Global, rows: &[Row<'_>], read: usize) -> Vec<u8> {
     let mut out = Vec::new(alloc);
     let mut left = read;
@@ -236,7 +236,7 @@ pub fn said_after(alloc: Global, rows: &[Row<'_>], read: usize) -> Vec<u8> {
     out
 }
 
-/// Whether the last row is judged once so many bytes have come.
+/// Whether the last row is judged once `read` bytes have come.
 fn is_over(rows: &[Row<'_>], read: usize) -> bool {
     let mut left = read;
     let mut is_so = false;
@@ -318,7 +318,7 @@ fn serve(alloc: Global, stream: Stream<'_>, reader: Halves<'_>) -> Option<Served
     }
 }
 
-/// Whether a server over these bytes, so many of the stream, says what is due, ends so, and leaves once.
+/// Whether a server over these bytes, the first `read` of the stream, says what is due, ends so, and leaves once.
 fn is_served(alloc: Global, stream: Stream<'_>, reader: Halves<'_>, read: usize) -> bool {
     let said = said_after(alloc, stream.rows, read);
     let end = if is_over(stream.rows, read) {
@@ -347,7 +347,7 @@ fn is_served_cut(alloc: Global, stream: Stream<'_>, bytes: &[u8], cut: usize) ->
         && is_served(alloc, stream, Halves { front, rest: b"" }, front.len())
 }
 
-/// Whether a stream of so many bytes is cut here: everywhere, but in the middle of a long one.
+/// Whether a stream of `length` bytes is cut here: everywhere, but in the middle of a long one.
 fn is_place(length: usize, cut: usize) -> bool {
     cut < 300 || length.saturating_sub(cut) < 100
 }

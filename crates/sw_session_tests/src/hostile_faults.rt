@@ -1,4 +1,4 @@
-//! Connections of both kinds that fail, at each place in turn: what was answered until then stands, the session leaves
+//! Connections of both kinds that fail, at each place in turn: the answers until then are written, the session leaves
 //! once, and its lock is free for the next.
 
 use crate::clients::{Bench, Client, IDENTITY, bench};
@@ -29,7 +29,7 @@ impl Read for Bytes<'_> {
     }
 }
 
-/// Takes so many bytes, three at a time, and then fails.
+/// Takes `room` bytes, three at a time, and then fails.
 #[derive(Drop)]
 struct Narrow {
     bytes: Vec<u8>,
@@ -79,7 +79,7 @@ fn second_rows() -> [Row<'static>; 6] {
     ]
 }
 
-/// What a server does on a connection to these bytes, where so much can be written.
+/// What a server does on a connection to these bytes, where `room` bytes can be written.
 fn serve_narrow<D: Desk>(
     alloc: Global,
     channel: Channel,
@@ -100,7 +100,7 @@ fn serve_narrow<D: Desk>(
     }
 }
 
-/// Whether a server ended by this fault, had written that, and its session has left so often.
+/// Whether a server ended by this fault, had written that, and its session has left `leaves` times.
 fn is_ended(served: Served, fault: ServeFault, said: &[u8], leaves: u32) -> bool {
     let is_so = served.result == Err(fault)
         && served.main.as_slice() == said

@@ -84,7 +84,7 @@ fn begins_not(alloc: Global, row: Row<'_>, fault: ServeFault) -> bool {
     holds(alloc, first(usize::MAX, &rows, Err(fault)))
 }
 
-/// Whether a wrong prologue is told, before a session and in it.
+/// Whether the channel reports a wrong prologue, before a session and in it.
 fn refuses_prologue(alloc: Global, prologue: [u8; 2]) -> bool {
     let row = fails(malformed(prologue, DATA), 1);
     let rows = [begins(), row];
@@ -120,7 +120,7 @@ fn begins_not_at(alloc: Global, sub_address: &[u8]) -> bool {
     begins_not(alloc, fails(it, 3), ServeFault::Fatal)
 }
 
-/// Whether no session begins by this byte, wherever it stands in a sub-address.
+/// Whether no session begins by this byte, at any place of a sub-address.
 fn begins_not_with(alloc: Global, byte: u8) -> bool {
     begins_not_at(alloc, &[byte])
         && begins_not_at(alloc, &[byte, b'h', b'i', b's', b'l', b'i', b'p', b'0'])
@@ -181,7 +181,7 @@ fn a_program_before_the_second_connection_is_fatal(rt: HostRuntime) {
     );
 }
 
-/// Whether a message of this type is told as an error of this code, and the next is served.
+/// Whether the channel reports a message of this type as an error of this code, and serves the next.
 fn passes_over(alloc: Global, kind: u8, code: u8) -> bool {
     let rows = [begins(), errs(kind, code), asks(b"*IDN?", IDENTITY)];
     holds_within(alloc, &rows)
@@ -220,7 +220,7 @@ fn a_payload_without_end_is_skipped(rt: HostRuntime) {
     assert!(rt; skips_without_end(rt.alloc()));
 }
 
-/// Whether a message of this type whose payload is one byte too long is refused, and the next is served.
+/// Whether the channel refuses a message of this type with a payload one byte too long, and serves the next.
 fn skips(alloc: Global, kind: u8, payload: &[u8], next: Row<'_>) -> bool {
     let rows = [
         begins(),
@@ -296,7 +296,7 @@ fn a_program_message_of_many_parts_is_dropped_once(rt: HostRuntime) -> Result<()
     Ok(())
 }
 
-/// Whether after these blanks a query is answered, and one with a byte more is dropped, wherever that byte stands.
+/// Whether after these blanks a query is answered, and a query with a byte more is dropped, at any place of that byte.
 fn ends_at_the_limit(alloc: Global, blanks: &[u8]) -> bool {
     let overrun: &[u8] = b"-363,\"Input buffer overrun\"\n";
     let rows = [
@@ -324,7 +324,7 @@ fn a_program_message_may_end_at_the_limit(rt: HostRuntime) -> Result<(), Fail> {
     Ok(())
 }
 
-/// Whether empty payloads stand for nothing.
+/// Whether empty payloads mean nothing.
 fn takes_nothing(alloc: Global) -> bool {
     let welcome = says(
         line(INITIALIZE, 0, 0x0100_5858, b""),
@@ -349,7 +349,8 @@ fn an_empty_payload_is_nothing(rt: HostRuntime) {
     assert!(rt; takes_nothing(rt.alloc()));
 }
 
-/// Whether the end of a device clear that nobody began is acknowledged, and drops what came of a program message.
+/// Whether the end of a device clear that no client began is acknowledged, and drops the part that has come of a
+/// program message.
 fn clears(alloc: Global) -> bool {
     let rows = [
         begins(),
@@ -373,7 +374,8 @@ fn a_clear_that_nobody_began_is_acknowledged(rt: HostRuntime) {
     assert!(rt; clears(rt.alloc()));
 }
 
-/// Whether a trigger within a program message is an error and drops what came of it, and one with a payload is one.
+/// Whether a trigger within a program message is an error and drops the part that has come, and one with a payload is
+/// one.
 fn triggers(alloc: Global) -> bool {
     let rows = [
         begins(),

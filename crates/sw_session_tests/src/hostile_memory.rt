@@ -42,7 +42,7 @@ const NO_MEMORY: &[u8] =
 /// All that is written on the first connection where memory is ample.
 pub const FIRST: [&[u8]; 4] = [WELCOME, NAME, CLOSED, NO_ERROR];
 
-/// Whether what was written on the first connection is all, or tells what unit or answer found no memory.
+/// Whether what was written on the first connection is all, or says what unit or answer found no memory.
 fn is_explained_first(main: &[u8]) -> bool {
     is_front(main, &FIRST)
         || is_front(main, &[WELCOME, CLOSED, NO_MEMORY])
@@ -73,7 +73,7 @@ const STATUS: &[u8] = b"HS\x16\x00\x00\x00\x00\x00\x00\x00\x00\x00\x00\x00\x00\x
 /// All that is written on the second connection where memory is ample.
 pub const SECOND: [&[u8]; 5] = [JOINED, SIZE, GRANTED, HELD, STATUS];
 
-/// Whether what was written on the second connection is all, or tells that the key found no memory.
+/// Whether what was written on the second connection is all, or says that the key found no memory.
 fn is_explained_second(main: &[u8]) -> bool {
     is_front(main, &SECOND) || is_front(main, &[JOINED, SIZE, REFUSED, FREE, STATUS])
 }

@@ -73,7 +73,7 @@ fn locks(control: u8, key: &[u8], code: u8) -> Row<'_> {
     )
 }
 
-/// Who holds locks: whether an exclusive one is held, and how many sessions hold one.
+/// The response to AsyncLockInfo: whether a session holds the exclusive lock, and how many sessions hold a lock.
 fn counts(exclusive: u8, sessions: u32) -> Row<'static> {
     says(
         plain(LOCK_INFO),
@@ -102,7 +102,7 @@ fn begins_not(alloc: Global, row: Row<'_>, fault: ServeFault) -> bool {
     holds(alloc, second(usize::MAX, &rows, Err(fault)))
 }
 
-/// Whether a wrong prologue is told, at first and later.
+/// Whether the channel reports a wrong prologue, at first and later.
 fn refuses_prologue(alloc: Global, prologue: [u8; 2]) -> bool {
     let row = fails(malformed(prologue, LOCK_INFO), 1);
     let rows = [begins(), row];
@@ -162,7 +162,7 @@ fn a_second_initialization_is_fatal(rt: HostRuntime) {
     );
 }
 
-/// Whether a message of this type is told as an error of this code, and the next is served.
+/// Whether the channel reports a message of this type as an error of this code, and serves the next.
 fn passes_over(alloc: Global, kind: u8, code: u8) -> bool {
     let rows = [begins(), errs(plain(kind), code), shows_nothing()];
     holds_within(alloc, &rows)
@@ -229,7 +229,7 @@ fn a_key_too_long_is_an_error(rt: HostRuntime) {
     assert!(rt; refuses_keys(rt.alloc()));
 }
 
-/// Whether a message of this type whose payload is too long is refused, and the next is served.
+/// Whether the channel refuses a message of this type with too long a payload, and serves the next.
 fn skips(alloc: Global, sent: Wire<'_>) -> bool {
     let rows = [
         begins(),
@@ -264,7 +264,7 @@ fn a_payload_too_long_is_skipped(rt: HostRuntime) -> Result<(), Fail> {
     Ok(())
 }
 
-/// Whether a size told in such a payload is answered by the instrument's own.
+/// Whether the answer to a size in such a payload is the instrument's own size.
 fn tells_size(payload: &[u8]) -> Row<'_> {
     says(
         line(SIZE, 0, 0, payload),

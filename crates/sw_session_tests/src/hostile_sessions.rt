@@ -8,7 +8,7 @@ use sw_core::{SessionAnswer, SessionAsk, Sid};
 use sw_hislip::Kind;
 use sw_session::{Channel, Desk, TURNS, View, Wake, serve_channel};
 
-/// Whether an answer is the identity in parts of so many bytes.
+/// Whether an answer is the identity in parts of `part` bytes.
 fn is_cut(said: &Said, part: usize) -> bool {
     let mut left = IDENTITY;
     let mut is_so = !said.ends;
@@ -25,7 +25,7 @@ fn is_cut(said: &Said, part: usize) -> bool {
     is_so && left.is_empty()
 }
 
-/// Whether the identity comes in parts of so many bytes once this size was told.
+/// Whether the identity comes in parts of `part` bytes once the client sent this size.
 fn cuts<D: Desk>(client: &mut Client, desk: &mut D, size: &[u8], part: usize) -> bool {
     let told = carrying(Kind::AsyncMaximumMessageSize, 0, 0, size);
     let own = [0, 0, 0, 0, 0, 1, 0, 0];
@@ -169,8 +169,8 @@ fn a_connection_without_its_session_does_nothing_to_the_next(rt: HostRuntime) ->
     Ok(())
 }
 
-/// A desk on which the session whose status is looked at leaves before the third look, and another takes its number.
-/// The first look is at the beginning of a second connection, and one is before each of its messages.
+/// A desk on which a session leaves before the third look at its status, and another takes its number. The first look
+/// is at the beginning of a second connection, and one is before each of its messages.
 #[derive(Drop)]
 struct Succeeded<D: Desk> {
     desk: D,
@@ -193,7 +193,7 @@ impl<D: Desk> Succeeded<D> {
         drop(self.desk.ask(SessionAsk::Attach(sid.number)));
     }
 
-    /// Whether the other session stands, with this number and its second connection.
+    /// Whether the other session has this number and its second connection.
     fn stands(&mut self, number: u8) -> bool {
         let Some(next) = self.next else {
             return false;
@@ -232,7 +232,7 @@ impl<D: Desk> Desk for Succeeded<D> {
     }
 }
 
-/// The second connection of session 3: its size is told, and told again once its number is another's.
+/// The second connection of session 3. Its client sends a size, and one more once its number is another session's.
 fn late() -> [Row<'static>; 3] {
     [
         quiet(line(17, 0, 3, b"")),
@@ -246,7 +246,7 @@ const LATE_SAID: &[u8] = b"HS\x12\x00\x00\x00SW\x00\x00\x00\x00\x00\x00\x00\x00\
 HS\x10\x00\x00\x00\x00\x00\x00\x00\x00\x00\x00\x00\x00\x08\x00\x00\x00\x00\x00\x01\x00\x00";
 
 /// Whether the server of a second connection ends at the first message after its number went to another session, has
-/// left once by itself, and that other session stands.
+/// left once by itself, and that other session still has its connections.
 fn ends_late<D: Desk>(alloc: Global, desk: &mut Succeeded<D>, sent: &[u8]) -> bool {
     let mut reader = Halves {
         front: sent,
@@ -335,7 +335,7 @@ fn closing() -> [Row<'static>; 3] {
     ]
 }
 
-/// Whether the relays stand so for the next session.
+/// Whether the relays are so for the next session.
 fn shows_relays<D: Desk>(alloc: Global, desk: &mut Watched<D>, relays: &[u8]) -> bool {
     let mut client = Client::new(alloc);
     let is_so = client.begins(desk, 1) && client.asks(desk, b"ROUT:CLOS:STAT?", relays);
@@ -343,7 +343,7 @@ fn shows_relays<D: Desk>(alloc: Global, desk: &mut Watched<D>, relays: &[u8]) ->
     is_so
 }
 
-/// Whether the relays stand so after a server was sent so much.
+/// Whether the relays are so after a server got these bytes.
 fn closes_by(alloc: Global, sent: &[u8], relays: &[u8]) -> bool {
     let Some(desk) = bench(alloc) else {
         return false;

@@ -1,5 +1,6 @@
 //! Tests of HiSLIP's engine and of its servers, by their public calls: the worked conversations, streams that are cut
-//! anywhere, and connections that fail. They stand here so that no crate is proved a second time for its tests.
+//! anywhere, and connections that fail. They have a crate of their own so that no crate is proved a second time for its
+//! tests.
 #![tactic(auto)]
 
 #[cfg(test)]

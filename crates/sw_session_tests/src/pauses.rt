@@ -5,7 +5,7 @@ use std::alloc::Global;
 use std::io::{ErrorKind, Read};
 use sw_session::{Channel, ServeFault, Source, Unread};
 
-/// Time limits end its first reads, so many of them, which it counts; then its bytes come.
+/// Time limits end its first `limits` reads, which it counts; then its bytes come.
 #[derive(Drop)]
 struct Late<'a> {
     limits: u32,
@@ -34,8 +34,8 @@ impl Source for Late<'_> {
     }
 }
 
-/// Whether over a reader that pauses three times the asynchronous server ends so and says this, after so many pauses
-/// and with so many bytes left.
+/// Whether over a reader that pauses three times the asynchronous server ends so and says this, after `paused` pauses
+/// and with `left` bytes left.
 fn is_late(
     alloc: Global,
     turns: u64,
@@ -85,8 +85,7 @@ fn a_pause_of_a_reader_is_a_turn(rt: HostRuntime) {
     );
 }
 
-/// Whether the asynchronous channel tells of a service request where such an error ended the read after its first
-/// message.
+/// Whether the asynchronous channel says a service request where such an error ended the read after its first message.
 fn tells_of_requests(alloc: Global, error: ErrorKind) -> bool {
     let mut reader = Pieces::broken(SECOND, 16, error, false);
     let served = serve(alloc, Channel::Asynchronous, &mut reader, 1000);

@@ -58,7 +58,7 @@ fn is_filled(answers: &[u8]) -> bool {
         && answers.ends_with(b"xxx;OPENBENCH,SWM8,0,1.0\n")
 }
 
-/// Whether answers are dropped with -225 from where there is no room for them, and the session goes on.
+/// Whether answers are dropped with -225 from where there is no room for them, and the session continues.
 fn drops_what_does_not_fit<D: Desk>(alloc: Global, sid: Sid, desk: &mut D) -> bool {
     let (Some(definition), Some(queries)) = (definition(alloc), queries(alloc)) else {
         return false;

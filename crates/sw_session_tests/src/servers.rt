@@ -6,8 +6,8 @@ use sw_base::Sequence;
 use sw_core::{AnswerText, SessionAnswer, SessionAsk, Sid};
 use sw_session::{Channel, Desk, Memory, ServeFault, Source, TURNS, View, Wake, serve_channel};
 
-/// A desk with one session, whose client takes messages of 27 bytes. It answers each command with its identity, and
-/// with each look at its status there was one more service request.
+/// A desk with one session. Its client takes messages of 27 bytes. It answers each command with its identity, and with
+/// each look at its status there was one more service request.
 #[derive(Drop)]
 struct Station {
     alloc: Global,
@@ -90,7 +90,7 @@ impl Desk for Station {
     }
 }
 
-/// Gives its bytes in pieces, the first of them this long. After so many reads a read is an error, once or for good.
+/// Gives its bytes in pieces, the first of them this long. After `good` reads a read is an error, once or for good.
 #[derive(Clone, Copy)]
 pub struct Pieces<'a> {
     left: &'a [u8],
@@ -113,7 +113,7 @@ impl<'a> Pieces<'a> {
         }
     }
 
-    /// One byte at a time, with an error after so many reads.
+    /// One byte at a time, with an error after `good` reads.
     pub fn broken(left: &'a [u8], good: u32, error: ErrorKind, is_lasting: bool) -> Self {
         Pieces {
             left,
@@ -144,7 +144,7 @@ impl Read for Pieces<'_> {
     }
 }
 
-/// Takes so many bytes, no more than five at a time, and then fails.
+/// Takes `room` bytes, no more than five at a time, and then fails.
 #[derive(Drop)]
 struct Narrow {
     bytes: Vec<u8>,
@@ -261,7 +261,7 @@ fn cuts_make_no_difference(rt: HostRuntime) {
     assert!(rt; is_whole_talk(rt.alloc(), 512, 512));
 }
 
-/// Whether the talk is answered whole from memory, in so many turns.
+/// Whether the talk is answered whole from memory, in `turns` turns.
 fn is_whole_from_memory(alloc: Global, turns: u64, end: Result<(), ServeFault>) -> bool {
     let mut memory = Memory { left: TALK };
     let served = serve(alloc, Channel::Synchronous, &mut memory, turns);
@@ -276,7 +276,7 @@ fn memory_is_read_whole(rt: HostRuntime) {
     );
 }
 
-/// How many bytes of the answer, and of what is said beside it, follow so many bytes of the talk.
+/// How many bytes of the answer, and of what is said beside it, follow the first `read` bytes of the talk.
 fn said_after(read: u32) -> (usize, usize) {
     match read {
         0..23 => (0, 0),
@@ -286,13 +286,13 @@ fn said_after(read: u32) -> (usize, usize) {
     }
 }
 
-/// So many of the first bytes.
+/// The first `count` bytes.
 fn front(bytes: &[u8], count: usize) -> &[u8] {
     let (front, _) = bytes.split_at(count.min(bytes.len()));
     front
 }
 
-/// Whether a read that fails after so many bytes leaves the answers to all before, and the session.
+/// Whether a read that fails after `good` bytes leaves the answers to all before, and the session.
 fn breaks_off(alloc: Global, good: u32) -> bool {
     let mut reader = Pieces::broken(TALK, good, ErrorKind::BrokenPipe, true);
     let served = serve(alloc, Channel::Synchronous, &mut reader, 1000);
@@ -315,7 +315,7 @@ fn each_read_fails_in_turn(rt: HostRuntime) {
     }
 }
 
-/// Whether an error of this kind after so many reads makes no difference.
+/// Whether an error of this kind after `good` reads makes no difference.
 fn passes_over(alloc: Global, good: u32, error: ErrorKind) -> bool {
     let mut reader = Pieces::broken(TALK, good, error, false);
     let served = serve(alloc, Channel::Synchronous, &mut reader, 1000);
@@ -333,9 +333,9 @@ fn time_limits_and_interrupts_are_no_faults(rt: HostRuntime) {
     }
 }
 
-/// Whether a writer that fails after so many bytes has the front of the answer, and the session leaves. That a message
-/// is available is noted where each of its two parts is handed to the writer, before it is written, and not where what
-/// comes before the part fails.
+/// Whether a writer that fails after `room` bytes has the front of the answer, and the session leaves. The server notes
+/// that a message is available where it gives each of its two parts to the writer, before it is written, and not where
+/// what comes before the part fails.
 fn stops_writing(alloc: Global, room: usize) -> bool {
     let mut reader = Pieces::new(TALK, 512, 512);
     let mut main = Narrow {
@@ -375,7 +375,7 @@ fn stops_writing(alloc: Global, room: usize) -> bool {
     served.notes == noted && is_served(served, Err(ServeFault::Write), front(SAID, room), beside, 1)
 }
 
-/// Whether a side writer that fails after so many bytes has the front of what is said beside the answer.
+/// Whether a side writer that fails after `room` bytes has the front of what is said beside the answer.
 fn stops_beside(alloc: Global, room: usize) -> bool {
     let mut reader = Pieces::new(TALK, 512, 512);
     let mut main = Vec::new(alloc);
@@ -421,7 +421,7 @@ fn each_write_fails_in_turn(rt: HostRuntime) {
     }
 }
 
-/// Whether so many reads of one byte each are all that is done.
+/// Whether `turns` reads of one byte each are all that the server does.
 fn reads_no_further(alloc: Global, turns: u64) -> bool {
     let mut reader = Pieces::new(TALK, 1, 1);
     let served = serve(alloc, Channel::Synchronous, &mut reader, turns);

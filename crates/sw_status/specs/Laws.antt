@@ -1,4 +1,4 @@
--- What the record of StatusModel promises, in the words of those who read a status.
+-- What the record of StatusModel promises a reader of a status.
 use Rattle.std.specs.Prelude.{◌≡◌, ℕ, ◌+◌, ◌-◌, ◌^◌, ◌<◌, ◌≤◌, ◌↔◌, Bool, true, false, nat_lt, nat_le, Some, List, []}
 use Rattle.std.specs.Prelude.{◌∷◌, ◌++◌, length, take, slice_get, if◌then◌else◌}
 use Rattle.sw_base.specs.Limits.{most_errors}
@@ -11,16 +11,16 @@ use Rattle.sw_status.specs.Registers.{group_conditioned}
 use Rattle.sw_status.specs.StatusModel.{StatusSeen, IsStatus, queued, pushed, popped, cleared, preset, enabled}
 use Rattle.sw_status.specs.StatusModel.{with_group, byte_of, asking_of, event_ended, IsSettled}
 
--- Each entry of the queue after an error is what stands in its place once the error is put behind the others, or is
--- the last there is room for and -350, in a queue that was full; and there are never more.
+-- Each entry of the queue after an error is the one in its place once the error is behind the others; but in a queue
+-- that was full the last entry that it has room for is -350. There are never more entries.
 pub record LosesOnlyToOverflow (errors : List ScpiError) (e : ScpiError) : Type 0 where
   pub oldest : take (most_errors - 1) (queued errors e) ≡ take (most_errors - 1) (errors ++ e ∷ [])
   pub newest : length errors < most_errors → queued errors e ≡ errors ++ e ∷ []
   pub full : length errors ≡ most_errors → slice_get (queued errors e) (most_errors - 1) ≡ Some QueueOverflow
   pub most : length errors ≤ most_errors → length (queued errors e) ≤ most_errors
 
--- what a queue that nobody reads holds once these errors came: all of them, or where they are too many the first of
--- them and -350 as the newest
+-- what a queue that no session reads has after these errors: all of them, or where they are too many the first of them
+-- and -350 as the newest
 abbrev pub held_of : List ScpiError → List ScpiError
 held_of came = if nat_le (length came) most_errors then came else take (most_errors - 1) came ++ QueueOverflow ∷ []
 
@@ -55,7 +55,7 @@ LatchesEachBit g bits =
     (k : ℕ) → k < 15
     → has_bit (group_conditioned g bits).event k ≡ latches g.event g.ptr g.ntr g.condition (low_15 bits) k
 
--- Whatever a group is told, bit 15 of its registers stays 0.
+-- Under every change of a group bit 15 of its registers stays 0.
 pub record KeepsBit15Clear (g : GroupSeen) : Type 0 where
   pub taken : IsGroup (event_taken g)
   pub enable : (bits : ℕ) → IsGroup (with_enable g bits)
@@ -64,7 +64,7 @@ pub record KeepsBit15Clear (g : GroupSeen) : Type 0 where
   pub reset : IsGroup (group_preset g)
   pub conditioned : (bits : ℕ) → IsGroup (group_conditioned g bits)
 
--- Whatever a status is told, it stays within its limits, the queue's 32 errors among them.
+-- Under every change a status stays within its limits, the queue's 32 errors among them.
 pub record KeepsLimits (s : StatusSeen) : Type 0 where
   pub error : (e : ScpiError) → IsStatus (pushed s e)
   pub read : IsStatus (popped s)

@@ -22,7 +22,7 @@ pub record StatusSeen : Type 0 where
   pub asking : ℕ
   pub requests : ℕ
 
--- at the start, where bit 7 of *ESR? tells that the power came on
+-- at the start, where bit 7 of *ESR? says that the power came on
 abbrev pub first_status : StatusSeen
 first_status = record {
   errors = [];

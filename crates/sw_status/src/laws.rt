@@ -1,4 +1,4 @@
-//! What holds of every status, whatever was called.
+//! What holds of every status, after any calls.
 
 ghost use Rattle.std.specs.Prelude.{◌≡◌, ℕ, Bool, List, [], fold};
 ghost use Rattle.sw_base.specs.declared.error.ScpiError.{ScpiError};
@@ -7,17 +7,17 @@ ghost use Rattle.sw_status.specs.StatusModel.{StatusSeen, IsStatus, queued, firs
 ghost use Rattle.sw_status.specs.Laws.{LosesOnlyToOverflow, held_of, TellsEachBit, CountsOnce, LatchesEachBit};
 ghost use Rattle.sw_status.specs.Laws.{KeepsBit15Clear, KeepsLimits};
 
-/// An error is lost only to -350, and at most 32 are held.
+/// The queue loses an error only to -350, and has at most 32.
 pub fn error_is_lost_only_to_overflow()
     ensures { (errors : List ScpiError) (e : ScpiError) → LosesOnlyToOverflow errors e }
 {}
 
-/// A queue that nobody reads holds all errors that came, or the first 31 and -350.
+/// A queue that no session reads has all errors that came, or the first 31 and -350.
 pub fn queue_holds_the_oldest()
     ensures { (came : List ScpiError) → fold queued [] came ≡ held_of came }
 {}
 
-/// Each bit of the status byte tells one thing, and bit 6 is 0 where nothing is enabled.
+/// Each bit of the status byte reports one thing, and bit 6 is 0 where nothing is enabled.
 pub fn byte_tells_each_bit()
     ensures { (s : StatusSeen) (mav : Bool) → TellsEachBit s mav }
 {}
@@ -34,7 +34,7 @@ pub fn transition_filters_decide()
     ensures { (g : GroupSeen) (bits : ℕ) → LatchesEachBit g bits }
 {}
 
-/// A status starts within its limits and stays there whatever it is told: at most 32 errors, fewer than 2^56 requests,
+/// A status starts within its limits and stays there under every change: at most 32 errors, fewer than 2^56 requests,
 /// and in each group's registers bit 15 is 0.
 pub fn limits_are_kept()
     ensures start { IsStatus first_status }

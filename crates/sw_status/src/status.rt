@@ -75,7 +75,7 @@ impl Status {
 
     /// A law: every status has at most 32 errors, fewer than 2^56 requests, and in each group's registers bit 15 is 0.
     ///
-    /// A caller learns from it what holds of a status whose history it doesn't know.
+    /// It gives a caller what holds of a status of any history.
     pub fn keeps_its_limits(&self)
         ensures { IsStatus self.now }
     {
@@ -166,7 +166,7 @@ impl Status {
             + flag(7, self.operation.summary())
     }
 
-    /// The status byte with MSS in bit 6 (IEEE 488.2, 11.2.2); `mav` tells whether a message is available.
+    /// The status byte with MSS in bit 6 (IEEE 488.2, 11.2.2); `mav` says whether a message is available.
     #[inline]
     #[tactic(auto, unfolding(crate::specs::StatusModel::byte_of))]
     pub fn byte(&self, mav: bool) -> u8

@@ -1,8 +1,8 @@
 //! A mainframe that the tests ask one thing at a time.
 //!
 //! These promise nothing, and most answer yes or no: what a mainframe promises, and each way out that a `?` is, would
-//! be carried on in the proof of every test. An answer or a `Core` is let go by a call of `drop`: where a scope ends,
-//! its drop would be written out for each of its variants.
+//! be part of the proof of every test. A call of `drop` drops an answer or a `Core`: where a scope ends, its drop would
+//! be written out for each of its variants.
 
 use std::alloc::Global;
 use sw_base::{ScpiError, print_micros, print_number};
@@ -16,7 +16,7 @@ fn ask<R: Relay, M: Meter>(alloc: Global, core: &mut Core<R, M>, ask: Ask<R, M>)
     core.apply(alloc, ask)
 }
 
-/// What a session is answered.
+/// The answer to a session.
 pub fn answer_of<R: Relay, M: Meter>(
     alloc: Global,
     core: &mut Core<R, M>,
@@ -34,7 +34,7 @@ pub fn answer_of<R: Relay, M: Meter>(
     }
 }
 
-/// The work that comes of what a session asks.
+/// The work that a session's ask gives.
 pub fn work_of<R: Relay, M: Meter>(
     alloc: Global,
     core: &mut Core<R, M>,
@@ -52,11 +52,11 @@ pub fn work_of<R: Relay, M: Meter>(
     }
 }
 
-/// A piece of work that is done was told to no scan.
+/// No scan took a piece of work that is done.
 #[derive(Clone, Copy)]
 pub struct NotTaken;
 
-/// Tells the scan of a piece of work that is done, and gives the next one.
+/// Gives the scan a piece of work that is done, and returns the next one.
 pub fn take<R: Relay, M: Meter>(
     alloc: Global,
     core: &mut Core<R, M>,
@@ -71,12 +71,12 @@ pub fn take<R: Relay, M: Meter>(
     }
 }
 
-/// What a Join is answered.
+/// The answer to a Join.
 pub fn join<R: Relay, M: Meter>(alloc: Global, core: &mut Core<R, M>) -> Option<SessionAnswer> {
     answer_of(alloc, core, SessionAsk::Join)
 }
 
-/// The session that an answer tells of.
+/// The session in an answer.
 fn session_of(answer: &Option<SessionAnswer>) -> Option<Sid> {
     match answer {
         Some(SessionAnswer::Joined(sid)) => Some(*sid),
@@ -216,7 +216,7 @@ pub fn misses_return<R: Relay, M: Meter>(
     misses(alloc, core, Ask::Finished(job.run()))
 }
 
-/// What a session is answered that asks what a scan would begin from.
+/// The answer to a session that asks what a scan would begin from.
 pub fn snapshot<R: Relay, M: Meter>(
     alloc: Global,
     core: &mut Core<R, M>,
@@ -264,7 +264,7 @@ fn is_written(form: AnswerForm, text: &[u8]) -> bool {
     }
 }
 
-/// Whether a text ends with that of an error in quotes, or tells that there is none.
+/// Whether a text ends with that of an error in quotes, or says that there is none.
 fn is_entry(error: Option<ScpiError>, text: &[u8]) -> bool {
     match (error, text) {
         (Some(error), [front @ .., b'"']) => front.ends_with(error.text().as_bytes()),
@@ -273,7 +273,7 @@ fn is_entry(error: Option<ScpiError>, text: &[u8]) -> bool {
     }
 }
 
-/// Whether the answer is to be asked for again.
+/// Whether the session has to ask again for the answer.
 fn is_held(answer: &Option<SessionAnswer>) -> bool {
     matches!(answer, Some(SessionAnswer::Hold(_)))
 }
@@ -291,14 +291,14 @@ fn is_refused(answer: &Option<SessionAnswer>, error: ScpiError) -> bool {
     }
 }
 
-/// Whether the answer, which is let go, is that no more events can be numbered.
+/// Whether the answer, which this drops, is that no more events can be numbered.
 pub fn was_worn(answer: Option<SessionAnswer>) -> bool {
     let is_worn = is_worn(&answer);
     drop(answer);
     is_worn
 }
 
-/// Whether the answer, which is let go, is a refusal by this error.
+/// Whether the answer, which this drops, is a refusal by this error.
 pub fn was_refused(answer: Option<SessionAnswer>, error: ScpiError) -> bool {
     let is_refused = is_refused(&answer, error);
     drop(answer);
@@ -313,7 +313,7 @@ fn read(alloc: Global, text: &[u8]) -> Result<Command, ScpiError> {
     }
 }
 
-/// Whether the text's first unit is refused by this error before it is asked.
+/// Whether this error refuses the text's first unit before the session asks it.
 pub fn is_misread(alloc: Global, text: &[u8], error: ScpiError) -> bool {
     match read(alloc, text) {
         Ok(command) => {
@@ -332,7 +332,7 @@ fn sent(alloc: Global, sid: Sid, text: &[u8]) -> Option<SessionAsk> {
     }
 }
 
-/// What a session is answered that sends one unit.
+/// The answer to a session that sends one unit.
 pub fn unit<R: Relay, M: Meter>(
     alloc: Global,
     core: &mut Core<R, M>,
@@ -345,7 +345,7 @@ pub fn unit<R: Relay, M: Meter>(
     }
 }
 
-/// Sends one unit, and gives the work that comes of it.
+/// Sends one unit, and gives the work that it gives.
 pub fn send<R: Relay, M: Meter>(
     alloc: Global,
     core: &mut Core<R, M>,
@@ -371,7 +371,7 @@ pub fn does<R: Relay, M: Meter>(
     is_done
 }
 
-/// Whether the unit is answered by this text.
+/// Whether the unit's answer is this text.
 pub fn tells<R: Relay, M: Meter>(
     alloc: Global,
     core: &mut Core<R, M>,
@@ -407,7 +407,7 @@ pub fn is_running<R: Relay, M: Meter>(alloc: Global, core: &mut Core<R, M>, sid:
     is_held
 }
 
-/// Whether this is told of the closed channels.
+/// Whether the mainframe answers these closed channels.
 pub fn has_closed<R: Relay, M: Meter>(
     alloc: Global,
     core: &mut Core<R, M>,

@@ -23,7 +23,7 @@ fn judges_together<R: Relay, M: Meter>(cage: &Cage<R, M>) -> bool {
         && refuses(cage, &[Chan::new(4, 1)], CloseRefusal::Absent)
 }
 
-/// Whether channels of two cards are closed together, and told.
+/// Whether the cage closes channels of two cards together, and lists them.
 fn closes_together<R: Relay, M: Meter>(alloc: Global, cage: &mut Cage<R, M>) -> bool {
     let pair = [Chan::new(1, 1), Chan::new(2, 1)];
     has_all(cage, &pair)
@@ -40,7 +40,7 @@ fn is_safe<R: Relay, M: Meter>(card: &Card<R, M>, serial: u32) -> bool {
     card.serial() == serial && !card.any_closed()
 }
 
-/// Whether a card with a closed channel is not taken, and is handed back with it closed.
+/// Whether the cage refuses a card with a closed channel, and gives it back with that closed.
 fn hands_closed_back<R: Relay, M: Meter>(cage: &mut Cage<R, M>, closed: R) -> bool {
     match refused_card(cage, 5, Card::relays(closed)) {
         Some((refusal, card)) => {
@@ -200,7 +200,7 @@ fn ignores<R: Relay, M: Meter>(cage: &mut Cage<R, M>, happening: Happening) -> b
     is_ignored(Some(cage.take(happening)))
 }
 
-/// The pause that the scan goes on to by a bus trigger.
+/// The pause to which a bus trigger advances the scan.
 fn triggered<R: Relay, M: Meter>(cage: &mut Cage<R, M>) -> Option<(Ticket, u64)> {
     match cage.take(Happening::Bus) {
         Taken::Pause(ticket, micros) => Some((ticket, micros)),
@@ -211,7 +211,7 @@ fn triggered<R: Relay, M: Meter>(cage: &mut Cage<R, M>) -> Option<(Ticket, u64)>
     }
 }
 
-/// Whether the scan goes on by the bus alone to this pause.
+/// Whether the bus alone advances the scan to this pause.
 fn pauses<R: Relay, M: Meter>(cage: &mut Cage<R, M>, wanted: (Ticket, u64)) -> bool {
     ignores(cage, Happening::External)
         && ignores(cage, Happening::Signal(LayerName::Arm(ArmLayer::Second)))
@@ -233,7 +233,7 @@ fn ends_by_its_meter<R: Relay, M: Meter>(
         && cage.readings().len() == 1
 }
 
-/// Whether a scan that awaits the bus, then a pause, then its meter goes on by each of these alone.
+/// Whether a scan that awaits the bus, then a pause, then its meter continues by each of these alone.
 fn goes_on_alone<R: Relay, M: Meter>(cage: &mut Cage<R, M>, layout: &Layout) -> bool {
     let ticket = Ticket { scan: 1, index: 1 };
     let is_paused = pauses(cage, (ticket, 500_000))

@@ -8,7 +8,7 @@ use sw_cage::{Cage, CloseRefusal, EjectRefusal, InstallRefusal, Job, Taken};
 use sw_card::{Card, Meter, Relay};
 use sw_channel::read_positions;
 use sw_trigger::Settings;
-use sw_verify::{BoxedSnapshot, Plan, Snapshot};
+use sw_verify::{BoxedSnapshot, Loaded, Plan, Setup, Snapshot};
 
 /// Whether a card comes into the slot.
 pub fn install<R: Relay, M: Meter>(cage: &mut Cage<R, M>, slot: u8, card: Card<R, M>) -> bool {
@@ -90,7 +90,10 @@ pub fn begin<R: Relay, M: Meter>(
         return None;
     };
     let snapshot = Snapshot {
-        settings,
+        settings: Setup {
+            scan: settings,
+            program: Loaded::Nothing,
+        },
         layout,
         closed: Sequence::new(closed),
     };
@@ -106,7 +109,7 @@ pub fn begin<R: Relay, M: Meter>(
     }
 }
 
-/// The settings of a scan of these channels with so many readings.
+/// The settings of a scan of these channels with `count` readings.
 pub fn settings_of(alloc: Global, chans: &[Chan], count: u32) -> Result<Settings, ScpiError> {
     let mut settings = Settings::new(alloc);
     let set = set(alloc, &mut settings, chans, count);

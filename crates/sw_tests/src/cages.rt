@@ -5,7 +5,7 @@ ghost use Rattle.std.specs.Prelude.{ℕ, Bool};
 use crate::asks::{
     does, eject, fit, has_closed, install, joined, refused_card, refuses, refuses_eject, tells,
 };
-use crate::boxes::{Relays, closed, three, voltmeter};
+use crate::boxes::{Relays, closed, mux, three, voltmeter};
 use std::alloc::{AllocError, Global};
 use std::sync::Arc;
 use std::sync::atomic::{AtomicU64, Ordering};
@@ -16,7 +16,7 @@ use sw_card::{Card, CardFault, Meter, Relay};
 use sw_core::{Core, Sid};
 use sw_kinds::{Driver, Fuse, Matrix, Mux, SimDriver};
 
-/// How often a driver was asked to drive a channel, and how often its supply was cut.
+/// How many calls asked a driver to drive a channel, and how many cut its supply.
 #[derive(Drop)]
 struct Tally {
     drives: AtomicU64,
@@ -25,7 +25,7 @@ struct Tally {
 
 type Record = Arc<Tally, Global>;
 
-/// A driver that tells a record outside what it was asked.
+/// A driver that writes its calls into a record outside.
 #[derive(Drop)]
 struct Recorder {
     coils: SimDriver,
@@ -66,7 +66,7 @@ fn recording(record: &Record) -> Result<Recorder, AllocError> {
     })
 }
 
-/// The drives and the cuts since this was asked last.
+/// The drives and the cuts since the last call of this.
 fn calls(record: &Record) -> (u64, u64) {
     (
         record.drives.swap(0, Ordering::SeqCst),
@@ -74,7 +74,7 @@ fn calls(record: &Record) -> (u64, u64) {
     )
 }
 
-/// Whether a card with a closed channel is not taken, and is handed back with it closed.
+/// Whether the mainframe refuses a card with a closed channel, and gives it back with that closed.
 fn hands_closed_back<R: Relay, M: Meter>(alloc: Global, core: &mut Core<R, M>, closed: R) -> bool {
     match refused_card(alloc, core, 5, Card::relays(closed)) {
         Some((refusal, card)) => {
@@ -156,12 +156,12 @@ fn cards_come_and_go(rt: HostRuntime) -> Result<(), Fail> {
     Ok(())
 }
 
-/// Whether the first two cards were asked to drive one channel each, and the third none.
+/// Whether the first two cards' drivers each got one call to drive a channel, and the third's none.
 fn were_driven(records: &[Record; 3]) -> bool {
     calls(&records[0]).0 == 1 && calls(&records[1]).0 == 1 && calls(&records[2]).0 == 0
 }
 
-/// Whether the first card was asked to drive one channel, and every card was cut once.
+/// Whether the first card's driver got one call to drive a channel, and every card's one cut.
 fn were_cut(records: &[Record; 3]) -> bool {
     calls(&records[0]) == (1, 1) && calls(&records[1]) == (0, 1) && calls(&records[2]) == (0, 1)
 }
@@ -214,7 +214,7 @@ fn records(alloc: Global) -> Result<[Record; 3], AllocError> {
     ])
 }
 
-/// A matrix of 20 channels whose second closing fails, a matrix and a multiplexer, which all tell these records.
+/// A matrix of 20 channels that fails its second closing, a matrix and a multiplexer; all write into these records.
 fn recorded(alloc: Global, records: &[Record; 3]) -> Result<(Relays, Relays, Relays), AllocError> {
     let fuse = Fuse::new(recording(&records[0])?, Some(2));
     let first: Relays = Box::new(alloc, Matrix::new(1, 20, fuse))?;
@@ -229,6 +229,87 @@ fn a_failure_opens_every_card(rt: HostRuntime) -> Result<(), Fail> {
     let cards = recorded(rt.alloc(), &records)?;
     let meter = voltmeter(rt.alloc())?;
     assert!(rt; blows_at_rest(rt.alloc(), cards, meter, &records));
+    Ok(())
+}
+
+/// A driver that each cut turns: the first one, which a new card does, makes it sure, the next one unsure, and so on.
+#[derive(Drop)]
+struct Doubter {
+    coils: SimDriver,
+    is_sure: bool,
+}
+
+impl Driver for Doubter {
+    ghost driven = { λ d k. ⟦<SimDriver as Driver>⟧.driven d.coils k };
+
+    ghost sure = { λ d. d.is_sure };
+
+    fn drive(&mut self, ch: u8, on: bool) -> Result<(), CardFault> {
+        self.coils.drive(ch, on)
+    }
+
+    fn is_sure(&self) -> bool {
+        self.is_sure
+    }
+
+    fn cut(&mut self) {
+        self.is_sure = !self.is_sure;
+        self.coils.cut();
+    }
+}
+
+/// Two multiplexers, and a matrix for slot 3 that is sure of its relays until the next cut.
+fn doubtful(alloc: Global) -> Result<(Relays, Relays, Relays), AllocError> {
+    let doubter = Doubter {
+        coils: SimDriver::new(),
+        is_sure: false,
+    };
+    let last: Relays = Box::new(alloc, Matrix::new(3, 8, doubter))?;
+    Ok((mux(alloc, 1, 1)?, mux(alloc, 2, 1)?, last))
+}
+
+/// Whether QUEStionable's condition is this while slot 3 says so of its relays; all other answers of the groups are 0.
+fn is_told<R: Relay, M: Meter>(
+    alloc: Global,
+    core: &mut Core<R, M>,
+    sid: Sid,
+    condition: &[u8],
+    word: &[u8],
+) -> bool {
+    tells(alloc, core, sid, b"STAT:QUES:COND?", condition)
+        && tells(alloc, core, sid, b"SYST:CTYP:STAT? 3", word)
+        && tells(alloc, core, sid, b"STAT:OPER:COND?", b"0")
+        && tells(alloc, core, sid, b"STAT:QUES?", b"0")
+        && tells(alloc, core, sid, b"STAT:QUES:ENAB?", b"0")
+}
+
+/// Whether the condition follows the card of slot 3 while each cut turns what it says.
+fn doubts<R: Relay, M: Meter>(alloc: Global, core: &mut Core<R, M>, sid: Sid) -> bool {
+    is_told(alloc, core, sid, b"0", b"SURE")
+        && does(alloc, core, sid, b"ROUT:OPEN:ALL")
+        && is_told(alloc, core, sid, b"512", b"UNS")
+        && does(alloc, core, sid, b"ROUT:OPEN:ALL")
+        && is_told(alloc, core, sid, b"0", b"SURE")
+}
+
+/// The same over a core that is at rest.
+fn doubts_at_rest<R: Relay, M: Meter>(alloc: Global, cards: (R, R, R), meter: M) -> bool {
+    let Ok(mut core) = Core::new(alloc) else {
+        return false;
+    };
+    let is_so = match fit(alloc, &mut core, cards, meter) {
+        Some(sid) => doubts(alloc, &mut core, sid),
+        None => false,
+    };
+    drop(core);
+    is_so
+}
+
+#[test]
+fn the_condition_tells_of_an_unsure_card(rt: HostRuntime) -> Result<(), Fail> {
+    let cards = doubtful(rt.alloc())?;
+    let meter = voltmeter(rt.alloc())?;
+    assert!(rt; doubts_at_rest(rt.alloc(), cards, meter));
     Ok(())
 }
 

@@ -38,7 +38,7 @@ fn with_reading(alloc: Global, number: u32) -> Result<Voltmeter, AllocError> {
     Ok(Box::new(alloc, Volt::new(4, fuse))?)
 }
 
-/// Sets three passes round two channels, with 2!1 closed by hand.
+/// Sets three passes round two channels, with 2!1 closed before by a command.
 fn sets_passes<R: Relay, M: Meter>(alloc: Global, core: &mut Core<R, M>, sid: Sid) -> bool {
     does(alloc, core, sid, b"ROUT:CLOS (@2!1)")
         && does(alloc, core, sid, b"ROUT:SCAN (@1!1,1!2)")
@@ -63,7 +63,7 @@ pub fn pieces_before_failure<R: Relay, M: Meter>(
     None
 }
 
-/// Whether a card's failure is told once, and every relay is open.
+/// Whether the mainframe reports a card's failure once, and every relay is open.
 pub fn is_broken_off<R: Relay, M: Meter>(alloc: Global, core: &mut Core<R, M>, sid: Sid) -> bool {
     tells(
         alloc,
@@ -92,7 +92,7 @@ pub fn keeps_readings<R: Relay, M: Meter>(
     tells(alloc, core, sid, b"FETC?", kept)
 }
 
-/// Whether a scan of three passes goes through now, which tells that no card is at fault.
+/// Whether a scan of three passes completes now, which shows that no card is at fault.
 fn goes_through<R: Relay, M: Meter>(alloc: Global, core: &mut Core<R, M>, sid: Sid) -> bool {
     let work = initiate(alloc, core, sid);
     matches!(carry_out(alloc, core, work), Ok(3))
@@ -100,8 +100,8 @@ fn goes_through<R: Relay, M: Meter>(alloc: Global, core: &mut Core<R, M>, sid: S
         && tells(alloc, core, sid, b"STAT:QUES:COND?", b"0")
 }
 
-/// Whether a scan of three passes is broken off behind so many pieces and readings, every relay open and the meter in
-/// its bay, and whether the next scan goes through.
+/// Whether a card's failure ends a scan of three passes after `pieces` pieces of work and `readings` readings, with
+/// every relay open and the meter in its slot, and whether the next scan completes.
 fn breaks_off<R: Relay, M: Meter>(
     alloc: Global,
     core: &mut Core<R, M>,
@@ -171,7 +171,7 @@ fn each_later_closing_fails_in_turn(rt: HostRuntime) -> Result<(), Fail> {
     Ok(())
 }
 
-/// Whether a scan whose first closing fails is broken off as it begins.
+/// Whether a failure of a scan's first closing ends it as it begins.
 fn begins_broken<R: Relay, M: Meter>(alloc: Global, cards: (R, R, R), meter: M) -> bool {
     let Ok(mut core) = Core::new(alloc) else {
         return false;
@@ -190,7 +190,7 @@ fn begins_broken<R: Relay, M: Meter>(alloc: Global, cards: (R, R, R), meter: M) 
     is_so
 }
 
-/// Whether no work comes of a scan that begins.
+/// Whether a scan that begins gives no work.
 pub fn begins_nothing<R: Relay, M: Meter>(alloc: Global, core: &mut Core<R, M>, sid: Sid) -> bool {
     let work = initiate(alloc, core, sid);
     let is_none = work.is_none();
@@ -219,7 +219,7 @@ fn misses_late<R: Relay, M: Meter>(
     }
 }
 
-/// Whether an aborted scan's reading that fails tells of nothing, and its meter is back.
+/// Whether an aborted scan's reading that fails reports nothing, and its meter is back.
 fn fails_in_silence<R: Relay, M: Meter>(alloc: Global, core: &mut Core<R, M>, sid: Sid) -> bool {
     let work = initiate(alloc, core, sid);
     let is_aborted = does(alloc, core, sid, b"ABOR");
@@ -254,8 +254,8 @@ fn a_late_failing_return_is_silent(rt: HostRuntime) -> Result<(), Fail> {
     Ok(())
 }
 
-/// Begins a scan of two rounds with 2!1 closed by hand, and goes on to the awaiting item of this index: the bus passes
-/// a wait, and work is carried out.
+/// Begins a scan of two rounds with 2!1 closed before by a command, and advances it to the awaiting item of this index:
+/// the bus passes a wait, and the test carries out the work.
 pub fn reached<R: Relay, M: Meter>(
     alloc: Global,
     core: &mut Core<R, M>,
@@ -321,7 +321,7 @@ pub fn ends<R: Relay, M: Meter>(
         && tells(alloc, core, sid, b"STAT:QUES:COND?", b"0")
 }
 
-/// Whether the meter stays out, and the scan goes on.
+/// Whether the meter stays out, and the scan continues.
 fn keeps_meter_out<R: Relay, M: Meter>(
     alloc: Global,
     core: &mut Core<R, M>,

@@ -1,6 +1,6 @@
-//! A mainframe whose running scan loses its cards, where a growth of memory is refused: until the scan has begun a want
-//! of memory may be told, and from then on nothing takes any. `tests/growths/run --tests` runs this while each growth is
-//! refused in turn.
+//! A mainframe that loses the cards of its running scan, where the allocator refuses a growth of memory: until the scan
+//! has begun the mainframe may report a lack of memory, and from then on nothing takes any. `tests/growths/run --tests`
+//! runs this while the allocator refuses each growth in turn.
 
 use crate::asks::{fit, misses_return};
 use crate::boxes::{mux, three, voltmeter};
@@ -9,7 +9,7 @@ use std::alloc::{AllocError, Global};
 use sw_card::{Meter, Relay};
 use sw_core::Core;
 
-/// Whether a scan that has begun keeps its cards and lets them go as ever, or none has begun.
+/// Whether a scan that has begun keeps its cards and releases them as ever, or none has begun.
 fn is_pulled_or_unbegun<R: Relay, M: Meter>(
     alloc: Global,
     core: &mut Core<R, M>,

@@ -1,6 +1,6 @@
 //! A scan of three nested ARM layers, by the bus, by a timer and by the external trigger, and of TRIGger by its own
-//! timer, over a core of boxed cards: each happening is offered at each of its awaiting items, and is taken where it is
-//! due and nowhere else.
+//! timer, over a core of boxed cards: the test offers each happening at each of its awaiting items; the scan takes it
+//! where it is due and nowhere else.
 
 use crate::asks::{
     NotTaken, answer_of, does, fit, has_closed, install, is_idle, is_running, joined, misses_end,
@@ -34,8 +34,8 @@ enum Due {
     Second,
 }
 
-/// What one turn of ARM layer 1 awaits, and the index of each in the agenda of a scan, where a closing stands before
-/// each reading and an opening behind it.
+/// What one turn of ARM layer 1 awaits, and the index of each in the agenda of a scan, with a closing before each
+/// reading and an opening behind it.
 const TURN: [(Due, u64); 25] = [
     (Due::Bus, 0),
     (Due::Timer, 1),
@@ -109,7 +109,7 @@ fn condition(due: Due) -> &'static [u8] {
     }
 }
 
-/// What is closed where this is awaited, beside what was closed by hand.
+/// The closed channels while the scan awaits this; a command closed 2!16 before it.
 fn closed(due: Due) -> &'static [u8] {
     match due {
         Due::First => b"(@1!1,2!16)",
@@ -160,7 +160,7 @@ fn is_work<M: Meter>(work: &Option<Work<M>>, item: u8) -> bool {
     }
 }
 
-/// Whether the scan stands at the item of this number.
+/// Whether the scan's place is the item of this number.
 fn stands<R: Relay, M: Meter>(alloc: Global, core: &mut Core<R, M>, sid: Sid, item: u8) -> bool {
     let due = due_at(item);
     is_running(alloc, core, sid)
@@ -173,7 +173,7 @@ fn stands<R: Relay, M: Meter>(alloc: Global, core: &mut Core<R, M>, sid: Sid, it
 enum Way {
     /// By the source of their layer.
     Source,
-    /// By the layer's own command, whatever its source.
+    /// By the layer's own command, under any source.
     Signal,
 }
 
@@ -198,7 +198,7 @@ fn passed<R: Relay, M: Meter>(
     }
 }
 
-/// Begins the scan, and goes on to the item of this number, where each before it gives out its work.
+/// Begins the scan, and advances it to the item of this number, where each before it gives out its work.
 fn reached<R: Relay, M: Meter>(
     alloc: Global,
     core: &mut Core<R, M>,
@@ -326,7 +326,7 @@ fn holds<R: Relay, M: Meter>(
         && stands(alloc, core, sid, item)
 }
 
-/// Whether what is due is taken at the item of this number, and the scan then stands at the next, or is over.
+/// Whether the scan takes what is due at the item of this number, and then is at the next, or is over.
 fn goes_on<R: Relay, M: Meter>(
     alloc: Global,
     core: &mut Core<R, M>,

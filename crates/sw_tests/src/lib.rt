@@ -1,5 +1,5 @@
 //! Tests of the cage, the core and the sessions, by their public calls: what no contract says, the instrument's worked
-//! examples, and each public call once with ample memory. They stand here so that no crate is proved a second time for
+//! examples, and each public call once with ample memory. They are here so that no crate is proved a second time for
 //! its tests.
 #![tactic(auto)]
 

@@ -1,5 +1,5 @@
-//! The lists of ROUTe:CLOSe and ROUTe:OPEN over a core of cards whose drivers write into one record: the order of their
-//! calls, and that none comes behind one that fails.
+//! The lists of ROUTe:CLOSe and ROUTe:OPEN over a core of cards with drivers that write into one record: the order of
+//! their calls, and that none comes behind one that fails.
 
 use crate::asks::{does, fit, has_closed, refuses};
 use crate::boxes::voltmeter;

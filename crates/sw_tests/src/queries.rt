@@ -1,4 +1,4 @@
-//! Every query of a core, answered with ample memory: a contract lets each of them tell of a want of memory.
+//! Every query of a core, answered with ample memory: a contract lets each of them report a lack of memory.
 
 use crate::asks::{answer_of, does, eject, fit, take, unit, was_refused};
 use crate::boxes::{three, voltmeter};
@@ -72,7 +72,7 @@ fn is_text(answer: &Option<SessionAnswer>) -> bool {
     matches!(answer, Some(SessionAnswer::Done(Some(_))))
 }
 
-/// Whether a query is answered by some text.
+/// Whether a query has some text as its answer.
 fn answers<R: Relay, M: Meter>(
     alloc: Global,
     core: &mut Core<R, M>,
@@ -108,7 +108,7 @@ fn reads_once<R: Relay, M: Meter>(alloc: Global, core: &mut Core<R, M>, sid: Sid
     matches!(carry_out(alloc, core, work), Ok(1))
 }
 
-/// Whether all queries are answered once a scan has read.
+/// Whether all queries have answers after a scan has read.
 fn tells_all<R: Relay, M: Meter>(alloc: Global, cards: (R, R, R), meter: M) -> bool {
     let Ok(mut core) = Core::new(alloc) else {
         return false;
@@ -133,7 +133,7 @@ fn no_query_lacks_memory(rt: HostRuntime) -> Result<(), Fail> {
     Ok(())
 }
 
-/// What is answered where the readings of the scan with this number are asked for, so many of them.
+/// The answer to an ask for `count` readings of the scan with this number.
 fn readings<R: Relay, M: Meter>(
     alloc: Global,
     core: &mut Core<R, M>,
@@ -145,7 +145,7 @@ fn readings<R: Relay, M: Meter>(
     answer_of(alloc, core, SessionAsk::Unit(sid, command, false))
 }
 
-/// Whether they are told.
+/// Whether the mainframe answers them.
 fn has_readings<R: Relay, M: Meter>(
     alloc: Global,
     core: &mut Core<R, M>,
@@ -159,7 +159,7 @@ fn has_readings<R: Relay, M: Meter>(
     is_so
 }
 
-/// Whether they are stale.
+/// Whether the mainframe refuses them as stale.
 fn lacks_readings<R: Relay, M: Meter>(
     alloc: Global,
     core: &mut Core<R, M>,
@@ -171,7 +171,7 @@ fn lacks_readings<R: Relay, M: Meter>(
     was_refused(answer, ScpiError::DataCorruptOrStale)
 }
 
-/// Whether of two scans the last one's readings are told alone, until a reset drops them.
+/// Whether of two scans the mainframe answers only the last one's readings, until a reset drops them.
 fn tells_last_readings<R: Relay, M: Meter>(alloc: Global, core: &mut Core<R, M>, sid: Sid) -> bool {
     reads_once(alloc, core, sid)
         && has_readings(alloc, core, sid, 1, 1)

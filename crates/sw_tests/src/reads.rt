@@ -6,13 +6,13 @@ use std::mem::replace;
 use sw_core::{SessionAnswer, SessionAsk, Sid};
 use sw_session::{Desk, Talker, View, Wake};
 
-/// A desk at whose first wait another session sends a message.
+/// A desk; at its first wait another session sends a message.
 #[derive(Drop)]
 struct Meddled {
     alloc: Global,
     desk: Bench,
     other: Sid,
-    /// The message, until it is sent.
+    /// The message, until the desk sends it.
     message: &'static [u8],
 }
 
@@ -55,7 +55,7 @@ fn tells<D: Desk>(alloc: Global, desk: &mut D, sid: Sid, message: &[u8], wanted:
     line.as_slice() == wanted
 }
 
-/// A message that reads a scan, what another session sends meanwhile, what is answered, and the errors then.
+/// A message that reads a scan, what another session sends meanwhile, the answer, and the errors then.
 #[derive(Clone, Copy)]
 struct Row {
     read: &'static [u8],

@@ -1,4 +1,4 @@
-//! The order of a scan's calls on its drivers, over cards whose drivers write into one record.
+//! The order of a scan's calls on its drivers, over cards with drivers that write into one record.
 
 ghost use Rattle.std.specs.Prelude.{ℕ, Bool};
 
@@ -18,7 +18,7 @@ use sw_kinds::{Driver, Fuse, Mux, SimDriver};
 /// What the drivers of several cards did, in order: by threes of decimal digits the slot, the channel, and 1 for on.
 pub type Record = Arc<AtomicU64, Global>;
 
-/// A driver that writes into the record what it is asked to drive.
+/// A driver that writes into the record what it drives.
 #[derive(Drop)]
 struct Recorder {
     coils: SimDriver,
@@ -46,7 +46,7 @@ impl Driver for Recorder {
     }
 }
 
-/// A card of two relays of the group, whose driver writes into the record.
+/// A card of two relays of the group, with a driver that writes into the record.
 fn recording(slot: u8, group: u8, record: &Record) -> Result<Mux<Recorder>, AllocError> {
     let driver = Recorder {
         coils: SimDriver::new(),
@@ -56,7 +56,7 @@ fn recording(slot: u8, group: u8, record: &Record) -> Result<Mux<Recorder>, Allo
     Ok(Mux::new(u32::from(slot), 2, group, driver))
 }
 
-/// Whether so many readings end the scan.
+/// Whether `count` readings end the scan.
 fn ends_after<R: Relay, M: Meter>(
     cage: &mut Cage<R, M>,
     first: Option<Taken<M>>,
@@ -72,7 +72,7 @@ fn ends_after<R: Relay, M: Meter>(
     is_over(taken)
 }
 
-/// Whether a scan of these channels with so many readings drives them in this order.
+/// Whether a scan of these channels with `count` readings drives them in this order.
 fn drives<R: Relay, M: Meter>(
     alloc: Global,
     cage: &mut Cage<R, M>,
@@ -177,7 +177,7 @@ fn the_channels_of_a_position_keep_their_order(rt: HostRuntime) -> Result<(), Fa
     Ok(())
 }
 
-/// Two cards and one whose first closing fails, which write into the record.
+/// Two cards and one that fails its first closing; all write into the record.
 pub fn recorded_with_fuse(
     alloc: Global,
     record: &Record,

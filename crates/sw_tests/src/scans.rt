@@ -62,7 +62,7 @@ pub fn done<R: Relay, M: Meter>(work: Work<M>) -> Ask<R, M> {
     }
 }
 
-/// Carries out the work and what comes of it, and counts the pieces.
+/// Carries out the work and all work that it leads to, and counts the pieces.
 pub fn carry_out<R: Relay, M: Meter>(
     alloc: Global,
     core: &mut Core<R, M>,
@@ -109,7 +109,7 @@ fn awaits_bus<R: Relay, M: Meter>(alloc: Global, core: &mut Core<R, M>) -> bool 
     misses_external(alloc, core) && misses_end(alloc, core, Ticket { scan: 1, index: 0 })
 }
 
-/// Whether the scan goes on for two rounds and no more.
+/// Whether the scan runs for two rounds and no more.
 fn goes_two_rounds<R: Relay, M: Meter>(alloc: Global, core: &mut Core<R, M>, sid: Sid) -> bool {
     begins(alloc, core, sid)
         && awaits_bus(alloc, core)
@@ -154,7 +154,7 @@ fn fourteen_happenings_end_the_scan(rt: HostRuntime) -> Result<(), Fail> {
     Ok(())
 }
 
-/// Whether a running scan keeps its meter out, and slot 2 takes no other card, which is handed back.
+/// Whether a running scan keeps its meter out, and slot 2 takes no other card, but gives it back.
 pub fn keeps_its_cards<R: Relay, M: Meter>(alloc: Global, core: &mut Core<R, M>, other: R) -> bool {
     match refused_card(alloc, core, 2, Card::relays(other)) {
         Some((refusal, back)) => {
@@ -261,7 +261,7 @@ fn cards_leave_a_running_scan(rt: HostRuntime) -> Result<(), Fail> {
     Ok(())
 }
 
-/// What the plan that could begin is answered once this was sent.
+/// The answer to the plan that could begin, after this was sent.
 fn answer_after<R: Relay, M: Meter>(
     alloc: Global,
     core: &mut Core<R, M>,
@@ -344,7 +344,7 @@ fn stale_plans_begin_nothing(rt: HostRuntime) -> Result<(), Fail> {
     Ok(())
 }
 
-/// Whether a Join is handed back where it would have the last number.
+/// Whether the mainframe gives a Join back where it would have the last number.
 fn join_is_worn<R: Relay, M: Meter>(alloc: Global) -> bool {
     let Ok(core) = Core::with_counts(alloc, u64::MAX, 0) else {
         return false;
@@ -355,7 +355,7 @@ fn join_is_worn<R: Relay, M: Meter>(alloc: Global) -> bool {
     is_worn
 }
 
-/// Whether an ask is handed back once all events are numbered, while a scan can still be aborted.
+/// Whether the mainframe gives an ask back after it has numbered all events, while an abort still ends a scan.
 fn wears_out<R: Relay, M: Meter>(alloc: Global, core: &mut Core<R, M>) -> bool {
     match joined(alloc, core) {
         Some(sid) => {
@@ -367,7 +367,7 @@ fn wears_out<R: Relay, M: Meter>(alloc: Global, core: &mut Core<R, M>) -> bool {
     }
 }
 
-/// The same over a core whose next event is its last.
+/// The same over a core with one event left.
 fn last_event_wears_out<R: Relay, M: Meter>(alloc: Global) -> bool {
     let Ok(core) = Core::with_counts(alloc, u64::MAX - 1, 0) else {
         return false;

@@ -1,4 +1,4 @@
-//! Messages over a desk that answers as it is told.
+//! Messages over a desk with canned answers.
 
 use crate::asks::{install, joined};
 use crate::positions::one_each;
@@ -12,7 +12,7 @@ use sw_kinds::{Mux, SimDriver, SimSource, Volt};
 use sw_lex::{Command, PlainQuery};
 use sw_session::{CoreDesk, Desk, Talker, View, Wake};
 use sw_trigger::Settings;
-use sw_verify::{BoxedSnapshot, Layout, Slot, Snapshot};
+use sw_verify::{BoxedSnapshot, Layout, Loaded, Setup, Slot, Snapshot};
 
 /// A desk that identifies itself, finds no hardware for anything else, and holds the first units.
 #[derive(Drop)]
@@ -26,13 +26,13 @@ struct Canned {
     limited: bool,
     /// The numbers of the errors that were queued.
     faults: Vec<i16>,
-    /// Whether the last unit was told that its message had answered before.
+    /// Whether the last unit came with the flag that its message had answered before.
     answered: bool,
     /// What the next scan would begin from; where there is nothing, a snapshot is refused.
     snapshot: Option<BoxedSnapshot>,
     /// How many scans were started.
     started: u32,
-    /// The number of the scan whose readings were asked for last, and how many they were to be.
+    /// The number of the scan of the last ask for readings, and how many that asked for.
     due: (u64, u64),
 }
 
@@ -71,7 +71,7 @@ fn asks_identity(command: &Command) -> bool {
     matches!(command, Command::Query(PlainQuery::Identify))
 }
 
-/// The number of the scan whose readings are asked for, and how many.
+/// The number of the scan of an ask for readings, and how many it asks for.
 fn asked_readings(command: &Command) -> Option<(u64, u64)> {
     match command {
         Command::ScanReadings(number, count) => Some((*number, *count)),
@@ -234,7 +234,7 @@ fn takes_65536_bytes(rt: HostRuntime) -> Result<(), Fail> {
     result
 }
 
-/// A cage of four channels in slot 1 and a meter in slot 4, where these channels are to be scanned.
+/// A cage of four channels in slot 1 and a meter in slot 4, with these channels in the scan's list.
 fn snapshot(alloc: Global, list: &[Chan]) -> Result<BoxedSnapshot, Fail> {
     let mut settings = Settings::new(alloc);
     settings.set_list(one_each(alloc, list)?)?;
@@ -244,7 +244,10 @@ fn snapshot(alloc: Global, list: &[Chan]) -> Result<BoxedSnapshot, Fail> {
     slots.push(Slot::empty())?;
     slots.push(Slot::meter())?;
     let snapshot = Snapshot {
-        settings,
+        settings: Setup {
+            scan: settings,
+            program: Loaded::Nothing,
+        },
         layout: Layout::new(slots),
         closed: Sequence::new(Vec::new(alloc)),
     };
@@ -383,7 +386,7 @@ pub fn bench(alloc: Global) -> Option<(Bench, Sid)> {
     }
 }
 
-/// Whether nothing is answered to a message.
+/// Whether a message has no answer.
 fn is_silent<D: Desk>(alloc: Global, desk: &mut D, sid: Sid, message: &[u8]) -> bool {
     let mut session = Talker::new(alloc, sid);
     let line = session.message(message, desk);
@@ -391,7 +394,7 @@ fn is_silent<D: Desk>(alloc: Global, desk: &mut D, sid: Sid, message: &[u8]) -> 
     line.is_empty()
 }
 
-/// Whether a wait with this limit comes to that.
+/// Whether a wait with this limit answers that.
 fn waits<D: Desk>(desk: &mut D, limit_ms: Option<u32>, wanted: Wake) -> bool {
     desk.wait(limit_ms) == wanted
 }

@@ -1,5 +1,5 @@
-//! A scan that lets its relays settle, over a core of boxed cards: under which ticket, what is told meanwhile, and what
-//! ends it.
+//! A scan that lets its relays settle, over a core of boxed cards: under which ticket, what the queries answer
+//! meanwhile, and what ends it.
 
 use crate::asks::{
     does, fit, has_closed, is_idle, misses_end, misses_external, refuses, take, tells,
@@ -55,7 +55,7 @@ fn first_of(scan: u64) -> Ticket {
     Ticket { scan, index: 1 }
 }
 
-/// Whether this is the pause of that ticket, of so many microseconds.
+/// Whether this is the pause of that ticket, of that many microseconds.
 fn is_pause<M: Meter>(work: Option<Work<M>>, wanted: (Ticket, u64)) -> bool {
     match work {
         Some(Work::Pause(ticket, micros)) => (ticket, micros) == wanted,
@@ -66,7 +66,7 @@ fn is_pause<M: Meter>(work: Option<Work<M>>, wanted: (Ticket, u64)) -> bool {
     }
 }
 
-/// Begins a scan of 1!1, and tells whether it settles for a second then, with 1!1 closed.
+/// Begins a scan of 1!1. Whether it then settles for a second, with 1!1 closed.
 fn begins<R: Relay, M: Meter>(alloc: Global, core: &mut Core<R, M>, sid: Sid, scan: u64) -> bool {
     does(alloc, core, sid, b"ROUT:SCAN (@1!1)")
         && does(alloc, core, sid, b"ROUT:CHAN:DEL 1")
@@ -109,7 +109,7 @@ fn reads<R: Relay, M: Meter>(
     }
 }
 
-/// Whether a closed position settles under its own ticket, by whose end alone it is read.
+/// Whether a closed position settles under its own ticket, and only the end of that pause lets it be read.
 fn settles<R: Relay, M: Meter>(alloc: Global, core: &mut Core<R, M>, sid: Sid) -> bool {
     begins(alloc, core, sid, 1)
         && is_passed_by_none(alloc, core, sid)
@@ -122,7 +122,7 @@ fn settles<R: Relay, M: Meter>(alloc: Global, core: &mut Core<R, M>, sid: Sid) -
         && tells(alloc, core, sid, b"FETC?", b"0.000000001")
 }
 
-/// Whether the end of this layer's pause begins that of another ticket, whose condition is this.
+/// Whether the end of this layer's pause begins that of another ticket, with this condition.
 fn goes_on<R: Relay, M: Meter>(
     alloc: Global,
     core: &mut Core<R, M>,
@@ -139,7 +139,8 @@ fn goes_on<R: Relay, M: Meter>(
     }
 }
 
-/// Whether a layer's pause is told as none that settles, with no relay closed yet, be it an ARM layer's or TRIGger's.
+/// Whether the condition shows no settling during a layer's pause, an ARM layer's and TRIGger's, with no relay closed
+/// yet.
 fn pauses<R: Relay, M: Meter>(alloc: Global, core: &mut Core<R, M>, sid: Sid) -> bool {
     let arm = (Ticket { scan: 1, index: 0 }, 3_000_000);
     let trigger = (Ticket { scan: 1, index: 1 }, 2_000_000);

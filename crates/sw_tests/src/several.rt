@@ -1,4 +1,4 @@
-//! Scans whose positions have several channels, over a core of boxed cards: each channel fails in turn, and the scan is
+//! Scans of positions with several channels, over a core of boxed cards: each channel fails in turn, and the scan is
 //! aborted or loses a card at each of its places.
 
 use crate::asks::{NotTaken, does, fit, has_closed, is_running, refuses};
@@ -38,7 +38,8 @@ fn sets_positions<R: Relay, M: Meter>(alloc: Global, core: &mut Core<R, M>, sid:
     does(alloc, core, sid, b"ROUT:SCAN (@1!1&2!1,2!3)") && does(alloc, core, sid, b"TRIG:COUN 2")
 }
 
-/// Whether a scan of these cards is broken off behind so many pieces, or as it begins, and keeps so many readings.
+/// Whether a failure ends a scan of these cards after `pieces` pieces of work, or as it begins, and it keeps `readings`
+/// readings.
 fn breaks_off<R: Relay, M: Meter>(
     alloc: Global,
     cards: (R, R, R),
@@ -62,7 +63,7 @@ fn breaks_off<R: Relay, M: Meter>(
     is_so
 }
 
-/// Whether a card fails behind so many pieces of the scan, or as it begins.
+/// Whether a card fails after `pieces` pieces of the scan's work, or as it begins.
 fn fails_behind<R: Relay, M: Meter>(
     alloc: Global,
     core: &mut Core<R, M>,

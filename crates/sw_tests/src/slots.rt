@@ -179,7 +179,7 @@ fn is_two<R: Relay, M: Meter>(alloc: Global, core: &mut Core<R, M>, work: Option
     matches!(carry_out(alloc, core, work), Ok(2))
 }
 
-/// Begins a scan that waits for the bus while 9!1 and 16!99 are closed by hand.
+/// Begins a scan that waits for the bus while 9!1 and 16!99 are closed, by commands before it.
 fn begins_waiting<R: Relay, M: Meter>(alloc: Global, core: &mut Core<R, M>, sid: Sid) -> bool {
     if !does(alloc, core, sid, b"ROUT:SCAN (@16!1)")
         || !does(alloc, core, sid, b"ROUT:SCAN:MET 10")
@@ -194,7 +194,7 @@ fn begins_waiting<R: Relay, M: Meter>(alloc: Global, core: &mut Core<R, M>, sid:
 }
 
 /// Whether the card of slot 9 leaves alone while no scan runs, and that of slot 16 a running scan, which ends with
-/// every relay open; and no card leaves, or comes to, a slot that the cage doesn't have.
+/// every relay open; and no card leaves or enters a slot that the cage doesn't have.
 fn leaves<R: Relay, M: Meter>(alloc: Global, core: &mut Core<R, M>, sid: Sid) -> bool {
     does(alloc, core, sid, b"ROUT:CLOS (@9!1,16!99)")
         && comes_out_safe(alloc, core, 9, 9)
@@ -231,7 +231,7 @@ fn moves_on<R: Relay, M: Meter>(alloc: Global, core: &mut Core<R, M>, sid: Sid) 
     }
 }
 
-/// Whether the card is handed back by slot 17, and then by slot 0, and is taken by slot 16.
+/// Whether slot 17, and then slot 0, give the card back, and slot 16 takes it.
 fn is_moved<R: Relay, M: Meter>(alloc: Global, core: &mut Core<R, M>, card: Card<R, M>) -> bool {
     match handed_back(alloc, core, 17, card) {
         Some(card) => match handed_back(alloc, core, 0, card) {

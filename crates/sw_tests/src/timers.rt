@@ -267,7 +267,7 @@ fn begins_next<M: Meter>(work: Result<Option<Work<M>>, NotTaken>, pass: u64) -> 
     }
 }
 
-/// Whether a scan by a timer goes to its end by signals of another session alone, and what its timers tell comes too
+/// Whether signals of another session alone bring a scan by a timer to its end, and the ends of its timers come too
 /// late.
 fn signals<R: Relay, M: Meter>(
     alloc: Global,
@@ -315,7 +315,7 @@ fn aborts<R: Relay, M: Meter>(
         && is_idle(alloc, core, second)
 }
 
-/// Whether the answer, which is let go, is to be asked for again.
+/// Whether the session has to ask again for the answer, which this drops.
 fn is_held(answer: Option<SessionAnswer>) -> bool {
     let is_held = matches!(&answer, Some(SessionAnswer::Hold(_)));
     drop(answer);

@@ -38,7 +38,7 @@ wait_of name layer = wait_by name layer.source layer.timer_us
 abbrev pub pause_of : ℕ → List Awaited
 pause_of micros = if micros == 0 then [] else Pause micros ∷ []
 
--- what a layer awaits on each of its turns before it goes on inwards
+-- what a layer awaits on each of its turns before the next layer inwards
 abbrev pub head_of : LayerName → Layer → List Awaited
 head_of name layer = wait_of name layer ++ pause_of layer.delay_us
 
@@ -46,7 +46,7 @@ head_of name layer = wait_of name layer ++ pause_of layer.delay_us
 abbrev pub position_at : List Position → ℕ → Position
 position_at list k = slice_index_or list (k % length list) []
 
--- one position measured: it is closed, settles for so many microseconds, is read and opened
+-- one position measured: the scan closes it, lets it settle for this many microseconds, reads and opens it
 abbrev pub visit : ℕ → Position → List Item
 visit settle p = Close p ∷ (map Awaits (pause_of settle) ++ Awaits Read ∷ Open p ∷ [])
 

@@ -56,13 +56,13 @@ in_passes settle trigger = in_turns Trigger trigger (in_visit settle)
 abbrev pub in_scan : SettingsSeen → List Awaited
 in_scan s = in_arms (arms_of s) (in_passes s.settle_us s.trigger)
 
--- how often something is done that is done so often on each turn of the inmost of the ARM layers
+-- how often the scan does something that it does n times on each turn of the inmost of the ARM layers
 abbrev pub times : List NamedLayer → ℕ → ℕ
 times [] n = n
 times (arm ∷ arms) n = arm.1.count * times arms n
 
--- the most that so many ARM layers round the passes await, and read: on each turn a wait and a pause, and in each pass
--- a reading, and what is awaited before it of the position that is closed
+-- the most that this many ARM layers round the passes await, and read: on each turn a wait and a pause, and in each
+-- pass a reading, and what the closed position awaits before it
 abbrev pub most_awaited : ℕ → ℕ → ℕ
 most_awaited visited zero = most_trigger_count * (2 + visited)
 most_awaited visited (suc arms) = most_arm_count * (2 + most_awaited visited arms)

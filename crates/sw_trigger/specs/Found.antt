@@ -1,4 +1,4 @@
--- Where a thing stands among all that the turns of a layer await.
+-- The place of a thing among all that the turns of a layer await.
 use Rattle.std.specs.Prelude.{◌≡◌, ℕ, ◌<◌, List, length, Some}
 use Rattle.std.specs.List.{slice_get}
 use Rattle.sw_trigger.specs.declared.layer.Awaited.{Awaited}

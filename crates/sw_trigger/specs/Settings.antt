@@ -12,7 +12,7 @@ use Rattle.sw_base.specs.declared.terms.LayerName.{LayerName}
 use Rattle.sw_base.specs.declared.terms.LayerName.TheVariants.{Arm, Trigger}
 use Rattle.sw_trigger.specs.declared.layer.Layer.{Layer}
 
--- the settings as callers see them: the ARM layers stand from the outermost on
+-- the settings as callers see them: the ARM layers from the outermost on
 pub record SettingsSeen : Type 0 where
   pub arms : List Layer
   pub trigger : Layer

@@ -1,4 +1,4 @@
-//! What the settings of a scan come to, by multiplication and division.
+//! The bound, the readings and the n-th awaited item of a scan's settings, by multiplication and division.
 
 ghost use Rattle.std.specs.Prelude.{◌≡◌, ◌≢◌, ◌<◌, ◌≤◌, ◌+◌, ◌*◌, ◌^◌, ◌↔◌, ◌∷◌, [], List, length, Some, IsNone};
 ghost use Rattle.std.specs.List.{slice_get};
@@ -151,7 +151,7 @@ enum Found {
     Inside(u64),
 }
 
-/// How many things all turns of a layer await, so many of them inside each turn.
+/// How many things all turns of a layer await, with `inside` of them inside each turn.
 fn turns_len(name: LayerName, layer: Layer, inside: u64) -> u64
     requires some { 1 ≤ layer.count }
     requires fits { (2 + inside) * layer.count < 2 ^ 64 }
@@ -181,7 +181,7 @@ fn find(name: LayerName, layer: Layer, inside: u64, n: u64) -> Found
     }
 }
 
-/// How many things a layer awaits on each turn before it goes on inwards.
+/// How many things a layer awaits on each turn before the next layer inwards.
 fn head_len(name: LayerName, layer: Layer) -> u64
     ensures len { result ≡ length (head_of name layer) }
     ensures small { result ≤ 2 }

@@ -18,9 +18,9 @@ pub struct Layer {
 pub enum Awaited {
     /// A trigger for the layer.
     Wait(LayerName),
-    /// The end of the layer's timer, after so many microseconds.
+    /// The end of the layer's timer, after this many microseconds.
     Period(LayerName, u64),
-    /// The end of a pause of so many microseconds.
+    /// The end of a pause of this many microseconds.
     Pause(u64),
     /// The meter's reading.
     Read,

@@ -1,4 +1,4 @@
-//! The settings of a scan: its layers, its list, its meter and its room for readings, and what they come to.
+//! The settings of a scan: its layers, its list, its meter and its room for readings, and their agenda and bound.
 //!
 //! A scan is a list of items, the agenda: waits, pauses and readings, and the closings and openings between them. The
 //! crate's contract: `Settings::bound` is the number of items that the scan awaits, `Settings::readings` the number of

@@ -129,7 +129,7 @@ impl Settings {
         Ok(())
     }
 
-    /// Sets the list of positions, whose channels need not exist; -223 for more than `LIST_ENTRIES`, which keeps the
+    /// Sets the list of positions; their channels need not exist; -223 for more than `LIST_ENTRIES`, which keeps the
     /// old list.
     pub fn set_list(&mut self, list: Vec<Position>) -> Result<(), ScpiError>
         ensures taken { IsOk result ↔ (length list.items ≤ most_entries) }

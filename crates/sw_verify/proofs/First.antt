@@ -7,7 +7,7 @@ use Rattle.sw_trigger.specs.Agenda.{used_of}
 use Rattle.sw_trigger.specs.Counts.{readings_of}
 use Rattle.sw_verify.specs.declared.refusal.Refusal.{Refusal}
 use Rattle.sw_verify.specs.declared.refusal.Refusal.TheVariants.{EmptyList, NoChannel, NoMeter, GroupClash, TooManyReadings, BadNesting, BadJump, LeftClosed}
-use Rattle.sw_verify.specs.declared.refusal.Refusal.TheVariants.{NotClosed, NoMemory}
+use Rattle.sw_verify.specs.declared.refusal.Refusal.TheVariants.{NotClosed, NoMemory, NoSource}
 use Rattle.sw_verify.specs.declared.snapshot.Snapshot.{Snapshot}
 use Rattle.sw_verify.specs.Channels.{is_among}
 use Rattle.sw_verify.specs.Sound.{CanCloseEach}
@@ -31,19 +31,20 @@ none_before p r a b c d e BadJump l f = f
 none_before p r a b c d e LeftClosed l f = f
 none_before p r a b c d e NotClosed l f = f
 none_before p r a b c d e NoMemory l f = f
+none_before p r a b c d e NoSource l f = f
 
 not_empty : (list : List Position) → 0 < length list → list ≡ [] → ⊥
 not_empty list h e = let n : length list ≡ 0 = ap length e in omega arith
 
 module _ (p : Snapshot) where
   abbrev present : Bool
-  present = list_all (list_all (is_present p.layout)) (used_of p.settings)
+  present = list_all (list_all (is_present p.layout)) (used_of p.settings.scan)
 
   abbrev Free : Type 0
-  Free = AllByRecursion (CanCloseEach p.layout (is_among p.closed)) (used_of p.settings)
+  Free = AllByRecursion (CanCloseEach p.layout (is_among p.closed)) (used_of p.settings.scan)
 
   abbrev Barred : Type 0
-  Barred = Any (λ (q : Position). (r : Refusal) × IsBarredAt p.layout (is_among p.closed) q r) (used_of p.settings)
+  Barred = Any (λ (q : Position). (r : Refusal) × IsBarredAt p.layout (is_among p.closed) q r) (used_of p.settings.scan)
 
   not_there : (q : Position) → list_all (is_present p.layout) q ≡ false → Any (λ c. is_present p.layout c ≡ false) q
   not_there q h = any_fails (is_present p.layout) (λ c. is_present p.layout c ≡ false) (λ x a. a) q h
@@ -51,45 +52,45 @@ module _ (p : Snapshot) where
   all_there : (q : Position) → list_all (is_present p.layout) q ≡ true → Any (λ c. is_present p.layout c ≡ false) q → ⊥
   all_there q h = none_fails (is_present p.layout) (λ c. is_present p.layout c ≡ false) (λ x a b. both_ways (is_present p.layout x) b a) q h
 
-  none_absent : present ≡ true → Any (Any (λ c. is_present p.layout c ≡ false)) (used_of p.settings) → ⊥
-  none_absent t = none_fails (list_all (is_present p.layout)) (Any (λ c. is_present p.layout c ≡ false)) all_there (used_of p.settings) t
+  none_absent : present ≡ true → Any (Any (λ c. is_present p.layout c ≡ false)) (used_of p.settings.scan) → ⊥
+  none_absent t = none_fails (list_all (is_present p.layout)) (Any (λ c. is_present p.layout c ≡ false)) all_there (used_of p.settings.scan) t
 
-  none_blocked : Free → Any (IsBlockedAt p.layout (is_among p.closed)) (used_of p.settings) → ⊥
+  none_blocked : Free → Any (IsBlockedAt p.layout (is_among p.closed)) (used_of p.settings.scan) → ⊥
   none_blocked t = each_but_any (CanCloseEach p.layout (is_among p.closed)) (IsBlockedAt p.layout (is_among p.closed))
-      (each_not_blocked p.layout (is_among p.closed)) (used_of p.settings) t
+      (each_not_blocked p.layout (is_among p.closed)) (used_of p.settings.scan) t
 
-  pub first_empty : p.settings.list ≡ [] → IsFirst EmptyList p
+  pub first_empty : p.settings.scan.list ≡ [] → IsFirst EmptyList p
   first_empty e = record {
     applies = e;
     none_before = none_before p EmptyList (λ l f. omega arith) (λ l f. omega arith) (λ l f. omega arith) (λ l f. omega arith) (λ l f. omega arith);
   }
 
-  pub first_absent : 0 < length p.settings.list → present ≡ false → IsFirst NoChannel p
+  pub first_absent : 0 < length p.settings.scan.list → present ≡ false → IsFirst NoChannel p
   first_absent h t = record {
-    applies = any_fails (list_all (is_present p.layout)) (Any (λ c. is_present p.layout c ≡ false)) not_there (used_of p.settings) t;
-    none_before = none_before p NoChannel (λ l f. not_empty p.settings.list h f) (λ l f. omega arith) (λ l f. omega arith) (λ l f. omega arith) (λ l f.
+    applies = any_fails (list_all (is_present p.layout)) (Any (λ c. is_present p.layout c ≡ false)) not_there (used_of p.settings.scan) t;
+    none_before = none_before p NoChannel (λ l f. not_empty p.settings.scan.list h f) (λ l f. omega arith) (λ l f. omega arith) (λ l f. omega arith) (λ l f.
         omega arith);
   }
 
-  pub first_unmeasured : 0 < length p.settings.list → present ≡ true → has_meter p.layout p.settings.meter ≡ false → IsFirst NoMeter p
+  pub first_unmeasured : 0 < length p.settings.scan.list → present ≡ true → has_meter p.layout p.settings.scan.meter ≡ false → IsFirst NoMeter p
   first_unmeasured h t m = record {
     applies = m;
-    none_before = none_before p NoMeter (λ l f. not_empty p.settings.list h f) (λ l f. none_absent t f) (λ l f. omega arith) (λ l f. omega arith) (λ l f.
+    none_before = none_before p NoMeter (λ l f. not_empty p.settings.scan.list h f) (λ l f. none_absent t f) (λ l f. omega arith) (λ l f. omega arith) (λ l f.
         omega arith);
   }
 
-  pub first_blocked : 0 < length p.settings.list → present ≡ true → has_meter p.layout p.settings.meter ≡ true → Barred → IsFirst GroupClash p
+  pub first_blocked : 0 < length p.settings.scan.list → present ≡ true → has_meter p.layout p.settings.scan.meter ≡ true → Barred → IsFirst GroupClash p
   first_blocked h t m f = record {
     applies = any_with (list_all (is_present p.layout)) (λ (q : Position). (r : Refusal) × IsBarredAt p.layout (is_among p.closed) q r)
-        (IsBlockedAt p.layout (is_among p.closed)) (λ q h w. barred_blocked p.layout (is_among p.closed) q w.0 h w.1) (used_of p.settings) t f;
-    none_before = none_before p GroupClash (λ l f. not_empty p.settings.list h f) (λ l f. none_absent t f) (λ l f.
-        both_ways (has_meter p.layout p.settings.meter) f m) (λ l f. omega arith) (λ l f. omega arith);
+        (IsBlockedAt p.layout (is_among p.closed)) (λ q h w. barred_blocked p.layout (is_among p.closed) q w.0 h w.1) (used_of p.settings.scan) t f;
+    none_before = none_before p GroupClash (λ l f. not_empty p.settings.scan.list h f) (λ l f. none_absent t f) (λ l f.
+        both_ways (has_meter p.layout p.settings.scan.meter) f m) (λ l f. omega arith) (λ l f. omega arith);
   }
 
-  pub first_too_many : 0 < length p.settings.list → present ≡ true → has_meter p.layout p.settings.meter ≡ true → Free
-      → p.settings.points < readings_of p.settings → IsFirst TooManyReadings p
+  pub first_too_many : 0 < length p.settings.scan.list → present ≡ true → has_meter p.layout p.settings.scan.meter ≡ true → Free
+      → p.settings.scan.points < readings_of p.settings.scan → IsFirst TooManyReadings p
   first_too_many h t m f r = record {
     applies = r;
-    none_before = none_before p TooManyReadings (λ l f. not_empty p.settings.list h f) (λ l f. none_absent t f) (λ l f.
-        both_ways (has_meter p.layout p.settings.meter) f m) (λ l b. none_blocked f b) (λ l f. omega arith);
+    none_before = none_before p TooManyReadings (λ l f. not_empty p.settings.scan.list h f) (λ l f. none_absent t f) (λ l f.
+        both_ways (has_meter p.layout p.settings.scan.meter) f m) (λ l b. none_blocked f b) (λ l f. omega arith);
   }

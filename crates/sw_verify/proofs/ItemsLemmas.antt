@@ -20,7 +20,7 @@ items_step (Close p) steps items loops = refl
 items_step (Open p) steps items loops = refl
 
 -- the steps of a tree do what it means
-items_tree : (t : Tree) (pc : ℕ) (rest : List Step) (items : List Item) (loops : List OpenLoop)
+pub items_tree : (t : Tree) (pc : ℕ) (rest : List Step) (items : List Item) (loops : List OpenLoop)
     → items_from (flatten t pc ++ rest) items loops ≡ items_from rest (items ++ meaning t) loops
 items_tree Nil pc rest items loops = ap (λ (l : List Item). items_from rest l loops) (sym (append-nil items))
 items_tree (Then x t) pc rest items loops =

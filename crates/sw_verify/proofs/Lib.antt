@@ -6,6 +6,8 @@ pub mod Nesting
 pub mod Flags
 pub mod Ledgers
 pub mod Looking
+pub mod SizedLemmas
+pub mod PacedLemmas
 pub mod Whole
 pub mod Complete
 pub mod Limits
@@ -15,4 +17,7 @@ pub mod ItemsLemmas
 pub mod AgendaLemmas
 pub mod SourcesLemmas
 pub mod CourseLemmas
+pub mod ReadyLemmas
+pub mod OnceLemmas
 pub mod PlanLemmas
+mod ListingsLemmas

@@ -88,7 +88,7 @@ module _ (fs : List Frame) (count start k : ℕ) where
       let e : f * count * r ≡ f * (count * r) = mul_assoc f count r in
       omega arith
 
-chosen : {A : Type 0} (b : Bool) (x : A) (r : Option A) → cond b (Some x) r ≡ None → (b ≡ false) × (r ≡ None)
+pub chosen : {A : Type 0} (b : Bool) (x : A) (r : Option A) → cond b (Some x) r ≡ None → (b ≡ false) × (r ≡ None)
 chosen true x r h = absurd (cc h)
 chosen false x r h = (refl, h)
 

@@ -194,7 +194,7 @@ loop_differs layout closed steps i ledger (row ∷ rest) p k to e other =
     loop_stops layout closed steps i ledger (row ∷ rest) p k to row rest e refl (λ same. other rest (ap (λ (r : List Bool). r ∷ rest) (sym same)))
 
 -- what may not be closed can't be
-barred_not : (layout : Layout) (b : Channels) (c : Channel) (r : Refusal) → CanCloseOne layout b c → IsBarred layout b c r → ⊥
+pub barred_not : (layout : Layout) (b : Channels) (c : Channel) (r : Refusal) → CanCloseOne layout b c → IsBarred layout b c r → ⊥
 barred_not layout b c r can barred =
     ⊎_elim (λ (x : (is_present layout c ≡ false) × (r ≡ NoChannel)). both_ways (is_present layout c) x.0 can.present)
     (λ (x : (is_present layout c ≡ true) × IsBlocked layout b c × (r ≡ GroupClash)).

@@ -16,7 +16,7 @@ use Rattle.sw_code.specs.Code.{Unfolds}
 use Rattle.sw_verify.specs.Channels.{Channels, none, with_channel, without, same_channel, with_each, without_each}
 use Rattle.sw_base.specs.Layout.{Channel, Layout}
 use Rattle.sw_channel.specs.Positions.{Position}
-use Rattle.sw_trigger.specs.Counts.{awaiting, reads}
+use Rattle.sw_trigger.specs.Counts.{awaiting, is_reading, reads}
 use Rattle.sw_base.specs.Layout.{has_meter}
 use Rattle.sw_code.specs.Range.{Program, IsStep, IsProgramInRange}
 use Rattle.sw_verify.specs.Judged.{HasCounts, IsVerified}
@@ -24,6 +24,8 @@ use Rattle.sw_verify.specs.Sound.{CanCloseEach, CanOpenEach, AllRight, effect, I
 use Rattle.sw_code.specs.Tree.{Tree, Nil, Then, Times, step_of, size, flatten, meaning, IsNested}
 use Rattle.sw_verify.specs.Nest.{in_use, at_loop, fault_in, AreCounted, StepsRight, tally, every, is_read}
 use Rattle.sw_code.proofs.Unfolding.{unfolds}
+use Rattle.sw_verify.specs.Items.{items_of}
+use Rattle.sw_verify.proofs.ItemsLemmas.{items_tree}
 use Rattle.sw_verify.proofs.Round.{effect-append, same_channel_is}
 
 -- The steps are a tree's, then the end of the innermost open loop, a tree's again, and so on to halt.
@@ -351,6 +353,42 @@ pub has_counts : (layout : Layout) (closed : Channels) (room : ℕ) (code : Prog
     → IsVerified layout closed room code (record { code = code; bound = bound; readings = readings })
     → HasCounts (record { code = code; bound = bound; readings = readings })
 has_counts layout closed room code bound readings v = record { items = v.items; unfolds = v.unfolds; bound = v.bound; readings = v.readings }
+
+-- code whose loops are nested does its items, and their tally is that of the things awaited among them
+pub does_nested : (code : List Step) → AreCounted code → fault_in code 0 [] ≡ None → Unfolds code (items_of code)
+    × (tally every code 1 [] ≡ length (awaiting (items_of code))) × (tally is_read code 1 [] ≡ reads (items_of code))
+does_nested code w h =
+    let j = joined code 0 [] w h in
+    let t = j.0 in
+    let items : items_of code ≡ meaning t = ap items_of j.2 ∙ items_tree t 0 (step.Halt ∷ []) [] [] in
+    let count : tally every code 1 [] ≡ length (awaiting (meaning t)) =
+    ap (λ (l : List Step). tally every l 1 []) j.2 ∙ tally_tree every t 0 (step.Halt ∷ []) 1 [] ∙ omega (arith, weigh-every (meaning t)) in
+    let read : tally is_read code 1 [] ≡ reads (meaning t) =
+    ap (λ (l : List Step). tally is_read l 1 []) j.2 ∙ tally_tree is_read t 0 (step.Halt ∷ []) 1 [] ∙ omega (arith, weigh-reads (meaning t)) in (
+      subst (λ (l : List Item). Unfolds code l) (sym items) (subst (λ (l : List Step). Unfolds l (meaning t)) (sym j.2) (unfolds t j.1)),
+      count ∙ ap (λ (l : List Item). length (awaiting l)) (sym items),
+      read ∙ ap reads (sym items),
+    )
+
+-- no more is awaited than is done
+pub awaits_some_items : (items : List Item) → length (awaiting items) ≤ length items
+awaits_some_items [] = omega arith
+awaits_some_items (Awaits w ∷ items) = omega (arith, awaits_some_items items)
+awaits_some_items (Close p ∷ items) = omega (arith, awaits_some_items items)
+awaits_some_items (Open p ∷ items) = omega (arith, awaits_some_items items)
+
+at_most_one : (w : Awaited) → is_reading w ≤ 1
+at_most_one (Wait name) = omega arith
+at_most_one (Period name micros) = omega arith
+at_most_one (Pause micros) = omega arith
+at_most_one Read = omega arith
+
+-- no more is read than is done
+pub reads_some_items : (items : List Item) → reads items ≤ length items
+reads_some_items [] = omega arith
+reads_some_items (Awaits w ∷ items) = omega (arith, at_most_one w, reads_some_items items)
+reads_some_items (Close p ∷ items) = omega (arith, reads_some_items items)
+reads_some_items (Open p ∷ items) = omega (arith, reads_some_items items)
 
 pub some_value : {T : Type 0} (o : Option T) (x : T) (P : T → Type 0) → o ≡ Some x → IfSome o P → P x
 some_value {T = T} o x P e h = subst (λ (p : Option T). IfSome p P) e h

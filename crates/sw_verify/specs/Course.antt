@@ -6,7 +6,7 @@ use Rattle.sw_base.specs.declared.terms.LayerName.{LayerName}
 use Rattle.sw_base.specs.declared.terms.LayerName.TheVariants.{Arm, Trigger}
 use Rattle.sw_base.specs.Layers.{arm_layers, number_of}
 use Rattle.sw_trigger.specs.Settings.{SettingsSeen, layer_of}
-use Rattle.sw_trigger.specs.Agenda.{Item, agenda}
+use Rattle.sw_trigger.specs.Agenda.{Item}
 use Rattle.sw_code.specs.Range.{Program, IsProgramInRange}
 use Rattle.sw_code.specs.Code.{Unfolds}
 use Rattle.sw_code.specs.Pace.{most_counting, IsPaced}
@@ -33,15 +33,6 @@ pub record CourseSeen : Type 0 where
   pub meter : ℕ
   pub sources : List Source
   pub points : ℕ
-
--- the course of settings does their agenda
-abbrev pub course_of : SettingsSeen → CourseSeen
-course_of s = record {
-  items = agenda s;
-  meter = s.meter;
-  sources = sources_of s;
-  points = s.points;
-}
 
 -- a run of the code does its items, with few steps between two, and they can be numbered
 pub record CanRun (code : Program) : Type 0 where

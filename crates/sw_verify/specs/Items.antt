@@ -9,7 +9,7 @@ use Rattle.sw_trigger.specs.Agenda.{Item, Awaits, Close, Open, repeated}
 abbrev pub OpenLoop : Type 0
 OpenLoop = ℕ × List Item
 
--- the innermost open loop ends, whose body did these items; what goes on with those of all its turns
+-- the innermost open loop ends, after its body did these items; the function continues with those of all its turns
 abbrev pub at_end : List OpenLoop → List Item → (List Item → List OpenLoop → List Item) → List Item
 at_end [] body go = []
 at_end (loop ∷ loops) body go = go (loop.1 ++ repeated loop.0 body) loops

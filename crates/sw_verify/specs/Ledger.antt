@@ -1,4 +1,4 @@
--- What rows of flags tell of the closed channels.
+-- What rows of flags show of the closed channels.
 use Rattle.std.specs.Prelude.{◌≡◌, ℕ, ◌/◌, ◌%◌, ◌<◌, Bool, true, false, ◌||◌, ◌&&◌, ◌==◌, not}
 use Rattle.std.specs.Prelude.{List, [], ◌∷◌, length, slice_index_or}
 use Rattle.sw_base.specs.Limits.{channel_places}

@@ -17,3 +17,10 @@ pub mod Course
 pub mod SourcesSeen
 pub mod CourseKept
 pub mod SavedSeen
+pub mod Paced
+pub mod Sized
+pub mod Runnable
+pub mod ProgramKept
+pub mod Setup
+pub mod Ready
+pub mod Listings

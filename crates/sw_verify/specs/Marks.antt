@@ -1,4 +1,4 @@
--- Rows of flags that tell at once which channels of a list are there, and which groups.
+-- Rows of flags that show at once which channels of a list are there, and which groups.
 use Rattle.std.specs.Prelude.{◌≡◌, ℕ, ◌+◌, ◌*◌, ◌<◌, Bool, false, ◌==◌, List, slice_index_or}
 use Rattle.std.specs.List.{list_any}
 use Rattle.sw_base.specs.Layout.{Channel, Layout, group_of}

@@ -2,7 +2,8 @@
 use Rattle.std.specs.Prelude.{◌≡◌, ℕ, List, take, ◌⊎◌}
 use Rattle.sw_base.specs.Layout.{Channel}
 use Rattle.sw_channel.specs.Positions.{Position}
-use Rattle.sw_trigger.specs.Agenda.{agenda, position_at}
+use Rattle.sw_trigger.specs.Agenda.{position_at}
+use Rattle.sw_verify.specs.Setup.{agenda}
 use Rattle.sw_verify.specs.declared.snapshot.Snapshot.{Snapshot}
 use Rattle.sw_verify.specs.Channels.{Channels, is_among, with_each}
 use Rattle.sw_verify.specs.Sound.{effect}

@@ -107,7 +107,7 @@ tally counts (step.Open p ∷ steps) f gs = tally counts steps f gs
 tally counts (step.Loop k to ∷ steps) f gs = tally_loop gs (tally counts steps)
 tally counts (step.Halt ∷ steps) f gs = 0
 
--- how often a step is done at most: so many loops stand round it, each on a counter of its own
+-- how often a scan does a step at most, with this many loops round it, each on a counter of its own
 abbrev pub most_turns : ℕ → ℕ
 most_turns zero = 1
 most_turns (suc counters) = most_trigger_count * most_turns counters

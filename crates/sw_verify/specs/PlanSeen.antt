@@ -1,13 +1,12 @@
 -- What a plan keeps.
 use Rattle.std.specs.Prelude.{◌≡◌}
-use Rattle.sw_trigger.specs.Agenda.{agenda}
 use Rattle.sw_code.specs.Code.{Unfolds}
-use Rattle.sw_code.specs.Compiled.{compiled}
-use Rattle.sw_verify.specs.Check.{IsReady}
+use Rattle.sw_verify.specs.Setup.{agenda, code_of}
+use Rattle.sw_verify.specs.Ready.{IsReady}
 use Rattle.sw_verify.specs.declared.plan.Plan.TheInside.{Inside}
 
--- the snapshot passes the check, and the code is that of its settings, which unfolds to their agenda
+-- the scan may begin, and the code is that of its settings or its program, which unfolds to their agenda
 pub record IsPlan (p : Inside) : Type 0 where
   pub ready : IsReady p.snapshot
-  pub code : p.verified.code ≡ compiled p.snapshot.settings
+  pub code : p.verified.code ≡ code_of p.snapshot.settings
   pub unfolds : Unfolds p.verified.code.steps (agenda p.snapshot.settings)

@@ -23,7 +23,7 @@ Fit words = (i : ℕ) → slice_index_or words i 0 < 2 ^ 64
 abbrev pub row_words : ℕ
 row_words = (channel_places + 63) / 64
 
--- so many of a row's flags are set
+-- `number` of a row's flags are set
 pub record IsRow (words : List ℕ) (number : ℕ) : Type 0 where
   pub size : length words ≡ row_words
   pub count : number ≡ count_by (λ (f : Bool). f) (flags_of words)

@@ -39,8 +39,8 @@ effect closed (Awaits what ∷ items) = effect closed items
 effect closed (Close p ∷ items) = effect (with_each p closed) items
 effect closed (Open p ∷ items) = effect (without_each p closed) items
 
--- The items may be done one after the other where these channels are closed and there is room for so many readings, and
--- leave closed what was closed.
+-- With these channels closed and room for this many readings, a scan may do the items one after the other; they leave
+-- closed what was closed.
 pub record IsSound (layout : Layout) (closed : Channels) (room : ℕ) (items : List Item) : Type 0 where
   pub right : AllRight layout closed none items
   pub fits : reads items ≤ room

@@ -43,7 +43,7 @@ abbrev pub LoopStops :
 LoopStops b m [] r go = r ≡ LeftClosed
 LoopStops b m (s ∷ ss) r go = (((b ≡ s.0) × (m ≡ s.1) → ⊥) × (r ≡ LeftClosed)) ⊎ ((b ≡ s.0) × (m ≡ s.1) × go ss)
 
--- The first step that may not be done, each looked at once in order, is refused by r. b is closed then, m by the code.
+-- r refuses the first step that may not be done, each looked at once in order. b is closed then, m by the code.
 abbrev pub StopsBy : Layout → Refusal → List Step → Channels → Channels → List (Channels × Channels) → Type 0
 StopsBy layout r [] b m ss = ⊥
 StopsBy layout r (step.Set k n ∷ steps) b m ss = StopsBy layout r steps b m ((b, m) ∷ ss)

@@ -1,11 +1,12 @@
-//! What is so of every scan that passes the check, while the cards stay and nobody else closes a channel.
+//! What holds of every scan that passes the check, while the cards stay and nothing else closes a channel.
 
-ghost use Rattle.std.specs.Prelude.{◌≡◌, ℕ, ◌≤◌, take};
+ghost use Rattle.std.specs.Prelude.{◌≡◌, ℕ, ◌≤◌, take, None};
 ghost use Rattle.sw_base.specs.Layout.{Channel, IsExclusive};
-ghost use Rattle.sw_trigger.specs.Agenda.{agenda};
 ghost use Rattle.sw_trigger.specs.Counts.{reads};
 ghost use Rattle.sw_verify.specs.Sound.{effect};
-ghost use Rattle.sw_verify.specs.Check.{IsReady};
+ghost use Rattle.sw_verify.specs.Setup.{agenda, running};
+ghost use Rattle.sw_verify.specs.Ready.{IsReady, IsFirstCause};
+ghost use Rattle.sw_verify.specs.declared.refusal.Refusal.{Refusal};
 ghost use Rattle.sw_verify.specs.Moments.{found, closed_after, IsListed, AtMostOneMore};
 
 use crate::snapshot::Snapshot;
@@ -16,10 +17,12 @@ pub fn ends_as_it_began(snapshot: &Snapshot)
     ensures { (c : Channel) → effect (found snapshot.now) (agenda snapshot.now.settings) c ≡ found snapshot.now c }
 {}
 
-/// At each moment the closed channels are those that it found, and at most those of one of its positions more.
+/// At each moment the closed channels are those that it found, and at most those of one of its positions more. A
+/// program may close several positions at once.
 pub fn closes_one_position_at_a_time(snapshot: &Snapshot)
     requires passed { IsReady snapshot.now }
-    ensures { (i : ℕ) → AtMostOneMore (IsListed snapshot.now.settings.list) (found snapshot.now)
+    requires settings { running snapshot.now.settings.program ≡ None }
+    ensures { (i : ℕ) → AtMostOneMore (IsListed snapshot.now.settings.scan.list) (found snapshot.now)
         (closed_after snapshot.now i) }
 {}
 
@@ -34,5 +37,10 @@ pub fn never_clashes(snapshot: &Snapshot)
 /// At no moment has it made more readings than there is room for.
 pub fn stays_within_its_points(snapshot: &Snapshot)
     requires passed { IsReady snapshot.now }
-    ensures { (i : ℕ) → reads (take i (agenda snapshot.now.settings)) ≤ snapshot.now.settings.points }
+    ensures { (i : ℕ) → reads (take i (agenda snapshot.now.settings)) ≤ snapshot.now.settings.scan.points }
+{}
+
+/// A scan that may not begin has one first cause.
+pub fn one_cause(snapshot: &Snapshot)
+    ensures { (r s : Refusal) → IsFirstCause r snapshot.now → IsFirstCause s snapshot.now → r ≡ s }
 {}

@@ -1,4 +1,4 @@
-//! Which cards stand in the slots of the cage.
+//! Which cards are in the slots of the cage.
 
 ghost use Rattle.std.specs.Prelude.{◌≡◌, ◌↔◌, ℕ, List, Some, None, IsTrue, IfSome, IfNone};
 ghost use Rattle.sw_base.specs.Layout.{relays, meter, contents_have, contents_group, contents_are_meter, slot_at};

@@ -35,7 +35,7 @@ impl Ledger {
         }
     }
 
-    /// Begins with these channels closed, whatever it told before.
+    /// Begins with these channels closed, and forgets what it showed before.
     #[inline(always)]
     pub fn begin(&mut self, layout: &Layout, closed: &[Chan])
         ensures { Shows layout.now (is_among closed.now) (is_among closed.now) none self.new }

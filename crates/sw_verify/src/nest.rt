@@ -17,7 +17,7 @@ pub struct Frame {
     pub start: u16,
 }
 
-/// What stands in the room of loops that are not open.
+/// What fills the room of loops that are not open.
 const NO_LOOP: Frame = Frame {
     counter: 0,
     count: 0,

@@ -6,7 +6,7 @@ ghost use Rattle.sw_base.specs.Layout.{is_present};
 ghost use Rattle.sw_verify.specs.Channels.{is_among};
 ghost use Rattle.sw_verify.specs.Sound.{CanCloseEach};
 ghost use Rattle.sw_verify.specs.Stops.{IsFirstBarred};
-ghost use Rattle.sw_verify.specs.Check.{IsReady, IsFirst};
+ghost use Rattle.sw_verify.specs.Check.{IsReadyBySettings, IsFirst};
 
 use crate::layout::Layout;
 use crate::ledger::Ledger;
@@ -15,14 +15,15 @@ use crate::snapshot::Snapshot;
 use sw_base::Chan;
 use sw_channel::Position;
 
-/// Whether the scan may begin; else the first refusal that applies, and never `NoMemory`.
+/// Whether the scan of the settings may begin, under any program; else the first refusal that applies, and never
+/// `NoMemory`.
 ///
 /// It looks at each position that the scan uses once, and at each closed channel once.
 pub fn check(snapshot: &Snapshot) -> Result<(), Refusal>
-    ensures ok { IsOk result ↔ IsReady snapshot.now }
+    ensures ok { IsOk result ↔ IsReadyBySettings snapshot.now }
     ensures first { IfErr result (λ r. IsFirst r snapshot.now) }
 {
-    let settings = &snapshot.settings;
+    let settings = &snapshot.settings.scan;
     let layout = &snapshot.layout;
     if settings.list().is_empty() {
         return Err(Refusal::EmptyList);

@@ -5,7 +5,7 @@ ghost use Rattle.sw_verify.specs.Check.{refusal_number, refusal_name, error_of};
 
 use sw_base::ScpiError;
 
-/// Why a scan may not begin, in the order in which the causes are looked for. The last five are of scan code.
+/// Why a scan may not begin, in the order in which the causes are looked for. The last six are of scan code.
 #[derive(Clone, Copy, Debug, PartialEq, Eq)]
 pub enum Refusal {
     /// Nothing is listed.
@@ -28,6 +28,8 @@ pub enum Refusal {
     NotClosed,
     /// Memory ran out.
     NoMemory,
+    /// A program awaits a trigger of a layer with the source IMMediate; no trigger would ever be of it.
+    NoSource,
 }
 
 impl Refusal {
@@ -46,6 +48,7 @@ impl Refusal {
             Refusal::LeftClosed => 8,
             Refusal::NotClosed => 9,
             Refusal::NoMemory => 10,
+            Refusal::NoSource => 11,
         }
     }
 
@@ -64,10 +67,11 @@ impl Refusal {
             Refusal::LeftClosed => "LeftClosed",
             Refusal::NotClosed => "NotClosed",
             Refusal::NoMemory => "NoMemory",
+            Refusal::NoSource => "NoSource",
         }
     }
 
-    /// The error that INITiate answers: -241 for an absent channel or meter, -225 for want of memory, else -221.
+    /// The error that INITiate answers: -241 for an absent channel or meter, -225 for a lack of memory, else -221.
     pub fn error(self) -> ScpiError
         ensures { result ≡ error_of self }
     {

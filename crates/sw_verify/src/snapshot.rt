@@ -3,20 +3,20 @@
 ghost use Rattle.std.specs.Prelude.{◌≡◌, IfOk};
 
 use crate::layout::Layout;
+use crate::setup::Setup;
 use std::alloc::{AllocError, Global};
 use std::marker::Model;
 use sw_base::{Chan, Sequence};
-use sw_trigger::Settings;
 
 /// The settings of a scan, the cards in the cage and the channels that are closed, at one moment.
 #[derive(Debug, Drop)]
 pub struct Snapshot {
-    pub settings: Settings,
+    pub settings: Setup,
     pub layout: Layout,
     pub closed: Sequence<Chan>,
 }
 
-/// A snapshot in a box, so that it is handed on cheaply. Contracts see the snapshot.
+/// A snapshot in a box, cheap to move. Contracts see the snapshot.
 #[derive(Debug, Drop)]
 pub struct BoxedSnapshot {
     kept: Box<Snapshot>,

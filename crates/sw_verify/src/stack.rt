@@ -11,7 +11,7 @@ const FEW: usize = 4;
 /// A stack. Contracts see the list of its items, the newest first.
 #[derive(Drop)]
 pub struct Stack<T: Copy + Drop> {
-    /// The oldest items, the newest of them last, and what stands behind them.
+    /// The oldest items, the newest of them last, and leftovers behind them.
     few: [T; FEW],
     /// How many of these are on it.
     count: usize,
@@ -30,7 +30,7 @@ impl<T: Copy + Drop> Model for Stack<T> {
 }
 
 impl<T: Copy + Drop> Stack<T> {
-    /// Nothing is on it; the item stands in its room.
+    /// Nothing is on it; the item fills its room.
     #[inline(always)]
     pub fn new(alloc: Global, item: T) -> Self
         ensures { result ≡ [] }

@@ -15,8 +15,8 @@ pub struct Counts {
     pub readings: u128,
 }
 
-/// The counts of a code whose loops are nested. A step is done at most as often as a loop on each counter comes to, so
-/// 128 bits hold them.
+/// The counts of a code with nested loops. A scan does a step at most as often as nested loops on every counter turn,
+/// so 128 bits hold them.
 pub fn tally(alloc: Global, steps: &[Step]) -> Result<Counts, AllocError>
     requires length { length steps.now ≤ most_steps }
     requires limited { AreLimited steps.now 1 [] }

@@ -72,7 +72,7 @@ impl Verified {
     }
 }
 
-/// A verified code in a box, so that it is handed on cheaply. Contracts see what was verified.
+/// A verified code in a box, cheap to move. Contracts see the verified code.
 #[derive(Debug, Drop)]
 pub struct BoxedVerified {
     kept: Box<Verified>,
@@ -110,8 +110,8 @@ impl BoxedVerified {
     }
 }
 
-/// The code with its counts, where it may be done with these cards, while these channels are closed and there is room
-/// for so many readings; else the first refusal that applies.
+/// The code with its counts, where a scan may do it with these cards, these channels closed and room for this many
+/// readings; else the first refusal that applies.
 ///
 /// It visits each step once, however often the loops make it.
 pub fn verify(
@@ -122,8 +122,9 @@ pub fn verify(
     points: u32,
 ) -> Result<Verified, Refusal>
     ensures sound { IfOk result (λ v. IsVerified layout.now (is_among closed.now) points code v) }
+    ensures order { IfOk result (λ v. IsInOrder layout.now (is_among closed.now) code) }
     ensures refused { IfErr result (λ r. IsDenied layout.now (is_among closed.now) points code r) }
-    // What settings that pass the check compile to is refused for want of memory alone.
+    // For settings that pass the check, only a lack of memory refuses their code.
     ensures complete { IfErr result (λ r. IsPlanned layout.now (is_among closed.now) points code → r ≡ NoMemory) }
 {
     in_order(alloc, &code, layout, closed)?;

@@ -10,10 +10,12 @@ use Rattle.sw_base.specs.declared.error.ScpiError.{ScpiError}
 use Rattle.sw_base.specs.declared.error.ScpiError.TheVariants.{UndefinedHeader, DataCorruptOrStale, OutOfMemory, HardwareMissing}
 use Rattle.sw_base.specs.declared.error.ScpiError.TheVariants.{SettingsConflict, HardwareError}
 use Rattle.sw_lex.specs.declared.command.Command.{Command}
+use Rattle.sw_base.specs.declared.terms.StatusGroup.{StatusGroup}
+use Rattle.sw_lex.specs.declared.command.GroupQuery.{GroupQuery}
 use Rattle.sw_lex.specs.declared.command.SlotQuery.{SlotQuery}
 use Rattle.sw_lex.specs.declared.command.Plain.{Plain}
 use Rattle.sw_lex.specs.declared.command.Channels.{Channels}
-use Rattle.sw_trigger.specs.Settings.{SettingsSeen}
+use Rattle.sw_verify.specs.declared.setup.Setup.{Setup}
 use Rattle.sw_status.specs.StatusModel.{StatusSeen}
 use Rattle.sw_cage.specs.TakenSeen.{TakenSeen, SaysIgnored, SaysWaits, SaysPause, SaysJob, SaysEnded, SaysFault}
 use Rattle.sw_cage.specs.declared.taken.Happening.{Happening}
@@ -21,10 +23,10 @@ use Rattle.sw_core.specs.declared.ask.SessionAsk.{SessionAsk}
 use Rattle.sw_core.specs.declared.ask.SessionAnswer.{SessionAnswer}
 use Rattle.sw_core.specs.declared.ask.SessionAnswer.TheVariants.{Done, Refused, Hold}
 use Rattle.sw_core.specs.Panel.{Panel, is_running}
-use Rattle.sw_core.specs.Action.{Effect, TellsText, TellsReadings, ReadsOut, SetsStatus, SetsUp, ClosesListed, OpensListed, TellsHardware, TellsSurety}
+use Rattle.sw_core.specs.Action.{Effect, TellsText, TellsReadings, ReadsOut, SetsStatus, SetsUp, ClosesListed, OpensListed, TellsHardware, TellsSurety, TellsListing}
 use Rattle.sw_core.specs.Action.{Changes}
 use Rattle.sw_core.specs.Action.{Resets, reset, aborted, Triggers, RefusesWith, IsOfMacros, Initiates, Action, AtOnce, BetweenScans, AfterScan, action_of}
-use Rattle.sw_core.specs.Step.{StepClose, StepOpen, StepHardware, StepSurety, StepText, StepDone, StepSetting, StepRefused, StepReadings, StepAlone}
+use Rattle.sw_core.specs.Step.{StepClose, StepOpen, StepHardware, StepSurety, StepListing, StepText, StepDone, StepSetting, StepRefused, StepReadings, StepAlone}
 use Rattle.sw_core.specs.Step.{Happens, StepEffect, StepHeld, StepAction}
 use Rattle.sw_core.specs.Seen.{WorkSeen}
 use Rattle.sw_workers.specs.Waking.{may_end}
@@ -76,7 +78,11 @@ leaves_command p available (Command.Plain Plain.Fetch) = tt
 leaves_command p available (Command.Plain Plain.Read) = tt
 leaves_command p available (Command.Query query) = tt
 leaves_command p available (Command.LayerQuery query layer) = tt
-leaves_command p available (Command.GroupQuery query group) = tt
+leaves_command p available (Command.GroupQuery GroupQuery.Condition StatusGroup.Operation) = tt
+leaves_command p available (Command.GroupQuery GroupQuery.Condition StatusGroup.Questionable) = tt
+leaves_command p available (Command.GroupQuery GroupQuery.Enable group) = tt
+leaves_command p available (Command.GroupQuery GroupQuery.PositiveTransition group) = tt
+leaves_command p available (Command.GroupQuery GroupQuery.NegativeTransition group) = tt
 leaves_command p available (Command.SlotQuery SlotQuery.Kind slot) = tt
 leaves_command p available (Command.SlotQuery SlotQuery.Groups slot) = tt
 leaves_command p available (Command.SlotQuery SlotQuery.State slot) = tt
@@ -89,6 +95,7 @@ leaves_command p available (Command.Channels Channels.CloseQuery chans) = tt
 leaves_command p available (Command.Channels Channels.CloseCheck chans) = tt
 leaves_command p available (Command.Channels Channels.Open chans) = tt
 leaves_command p available (Command.Channels Channels.OpenQuery chans) = tt
+leaves_command p available (Command.ListingCheck listing) = tt
 leaves_command p available (Command.Set setting) = tt
 leaves_command p available (Command.SetStatus setting) = tt
 leaves_command p available (Command.Macros ask) = tt
@@ -115,9 +122,14 @@ leaves_hardware p there text f (Refused HardwareMissing) q h = leaves_by p q (ap
 leaves_hardware p there text f (Refused OutOfMemory) q h = leaves_by p q (ap (λ (x : Panel). x.sessions) h.2) (ap is_running h.2)
 leaves_hardware p there text f a q h = absurd h
 
-leaves_surety : {ends : Bool} (p : Panel) (known : Option (List ℕ)) (f : Bool) (a : SessionAnswer) (q : Panel) → StepSurety p known f a q → Leaves ends p q
-leaves_surety p known f (Done (Some t)) q h = leaves_by p q (ap (λ (x : Panel). x.sessions) h.2) (ap is_running h.2)
-leaves_surety p known f a q h = absurd h
+leaves_surety : {ends : Bool} (p : Panel) (text : Bool → List ℕ) (f : Bool) (a : SessionAnswer) (q : Panel) → StepSurety p text f a q → Leaves ends p q
+leaves_surety p text f (Done (Some t)) q h = leaves_by p q (ap (λ (x : Panel). x.sessions) h.2) (ap is_running h.2)
+leaves_surety p text f a q h = absurd h
+
+leaves_listing : {ends : Bool} (p : Panel) (listing : List ℕ) (f : Bool) (a : SessionAnswer) (q : Panel) → StepListing p listing f a q → Leaves ends p q
+leaves_listing p listing f (Done (Some t)) q h = leaves_by p q (ap (λ (x : Panel). x.sessions) h.2) (ap is_running h.2)
+leaves_listing p listing f (Refused OutOfMemory) q h = leaves_by p q (ap (λ (x : Panel). x.sessions) h.1) (ap is_running h.1)
+leaves_listing p listing f a q h = absurd h
 
 leaves_text : {ends : Bool} (p : Panel) (text : List ℕ) (status : StatusSeen) (f : Bool) (a : SessionAnswer) (q : Panel) → StepText p text status f a q → Leaves
     ends p q
@@ -129,7 +141,7 @@ leaves_done : {ends : Bool} (p after : Panel) (f : Bool) (a : SessionAnswer) (q 
 leaves_done p after f (Done None) q s h = leaves_as p q after h.1 s
 leaves_done p after f a q s h = absurd h
 
-leaves_setting : {ends : Bool} (p : Panel) (Fits : Type 0) (error : ScpiError) (setup : SettingsSeen) (f : Bool) (a : SessionAnswer) (q : Panel)
+leaves_setting : {ends : Bool} (p : Panel) (Fits : Type 0) (error : ScpiError) (setup : Setup) (f : Bool) (a : SessionAnswer) (q : Panel)
     → StepSetting p Fits error setup f a q → Leaves ends p q
 leaves_setting p Fits error setup f (Done None) q h = leaves_by p q (ap (λ (x : Panel). x.sessions) h.2) (ap is_running h.2)
 leaves_setting p Fits error setup f (Refused e) q h = leaves_by p q (ap (λ (x : Panel). x.sessions) h.3) (ap is_running h.3)
@@ -148,11 +160,12 @@ leaves_alone (TellsText text) p f a q n h = leaves_text p (text p) p.status f a 
 leaves_alone (TellsReadings readings) p f a q n h = leaves_readings (readings p) p f a q h
 leaves_alone (ReadsOut text after) p f a q n h = leaves_text p (text p.status) (after p.status) f a q h
 leaves_alone (SetsStatus after) p f a q n h = leaves_done p (record p { status = after p.status }) f a q (record { seats = refl; scan = λ e i. i }) h
-leaves_alone (SetsUp Fits error after) p f a q n h = leaves_setting p Fits error (after p.settings) f a q h
+leaves_alone (SetsUp Fits error after) p f a q n h = leaves_setting p (Fits p.settings) error (after p.settings) f a q h
 leaves_alone (ClosesListed chans) p f a q n h = leaves_close p chans f a q h
 leaves_alone (OpensListed chans) p f a q n h = leaves_open p chans f a q h
 leaves_alone (TellsHardware there text) p f a q n h = leaves_hardware p (there p) (text p) f a q h
-leaves_alone (TellsSurety known) p f a q n h = leaves_surety p (known p) f a q h
+leaves_alone (TellsSurety text) p f a q n h = leaves_surety p (text p) f a q h
+leaves_alone (TellsListing listing) p f a q n h = leaves_listing p listing f a q h
 leaves_alone (Changes after) p f a q n h = leaves_done p (after p) f a q n h
 leaves_alone Resets p f a q n h = leaves_done p (reset p) f a q (leaves_ending p (reset p) refl n) h
 leaves_alone (RefusesWith error) p f a q n h = leaves_refused p error f a q h

@@ -11,10 +11,12 @@ use Rattle.sw_base.specs.declared.error.ScpiError.{ScpiError}
 use Rattle.sw_base.specs.declared.error.ScpiError.TheVariants.{UndefinedHeader, DataCorruptOrStale, OutOfMemory, HardwareMissing}
 use Rattle.sw_base.specs.declared.error.ScpiError.TheVariants.{SettingsConflict, HardwareError}
 use Rattle.sw_lex.specs.declared.command.Command.{Command}
+use Rattle.sw_base.specs.declared.terms.StatusGroup.{StatusGroup}
+use Rattle.sw_lex.specs.declared.command.GroupQuery.{GroupQuery}
 use Rattle.sw_lex.specs.declared.command.SlotQuery.{SlotQuery}
 use Rattle.sw_lex.specs.declared.command.Plain.{Plain}
 use Rattle.sw_lex.specs.declared.command.Channels.{Channels}
-use Rattle.sw_trigger.specs.Settings.{SettingsSeen}
+use Rattle.sw_verify.specs.declared.setup.Setup.{Setup}
 use Rattle.sw_status.specs.StatusModel.{StatusSeen}
 use Rattle.sw_verify.specs.declared.snapshot.Snapshot.{Snapshot}
 use Rattle.sw_cage.specs.Work.{FinishedSeen}
@@ -28,12 +30,12 @@ use Rattle.sw_core.specs.declared.ask.SessionAnswer.{SessionAnswer}
 use Rattle.sw_core.specs.declared.ask.SessionAnswer.TheVariants as answers
 use Rattle.sw_core.specs.declared.ask.SessionAnswer.TheVariants.{Joined, Full, Stranger, Broken, Done, Refused, Hold, Worn}
 use Rattle.sw_core.specs.Panel.{Panel, is_running}
-use Rattle.sw_core.specs.Action.{Effect, TellsText, TellsReadings, ReadsOut, SetsStatus, SetsUp, ClosesListed, OpensListed, TellsHardware, TellsSurety}
+use Rattle.sw_core.specs.Action.{Effect, TellsText, TellsReadings, ReadsOut, SetsStatus, SetsUp, ClosesListed, OpensListed, TellsHardware, TellsSurety, TellsListing}
 use Rattle.sw_core.specs.Action.{Changes}
 use Rattle.sw_core.specs.Action.{Resets, reset, Triggers, RefusesWith, IsOfMacros, Initiates, Action, AtOnce, BetweenScans, AfterScan, action_of}
 use Rattle.sw_core.specs.Event.{concluded, session_concluded, last_number, next_number}
 use Rattle.sw_core.specs.Seats.{asker_of}
-use Rattle.sw_core.specs.Step.{StepClose, StepOpen, StepHardware, StepSurety, StepText, StepDone, StepSetting, StepRefused, StepReadings, StepAlone}
+use Rattle.sw_core.specs.Step.{StepClose, StepOpen, StepHardware, StepSurety, StepListing, StepText, StepDone, StepSetting, StepRefused, StepReadings, StepAlone}
 use Rattle.sw_core.specs.Step.{Happens, StepEffect, StepHeld, StepAction, StepSnapshot, StepStart, IsServed, StepJoined, StepAdmitted}
 use Rattle.sw_core.specs.Step.{StepJoin, StepAttach, StepNew, StepSession, Returns, StepFinished, Acts, acts_unnumbered, IsWorn, IsEvent, IsUnnumbered, Step}
 use Rattle.sw_core.specs.Step.{Admission, Dropped, ShutOut, Admitted, admission}
@@ -74,7 +76,11 @@ same_command p available (Command.Plain Plain.Fetch) = tt
 same_command p available (Command.Plain Plain.Read) = tt
 same_command p available (Command.Query query) = tt
 same_command p available (Command.LayerQuery query layer) = tt
-same_command p available (Command.GroupQuery query group) = tt
+same_command p available (Command.GroupQuery GroupQuery.Condition StatusGroup.Operation) = tt
+same_command p available (Command.GroupQuery GroupQuery.Condition StatusGroup.Questionable) = tt
+same_command p available (Command.GroupQuery GroupQuery.Enable group) = tt
+same_command p available (Command.GroupQuery GroupQuery.PositiveTransition group) = tt
+same_command p available (Command.GroupQuery GroupQuery.NegativeTransition group) = tt
 same_command p available (Command.SlotQuery SlotQuery.Kind slot) = tt
 same_command p available (Command.SlotQuery SlotQuery.Groups slot) = tt
 same_command p available (Command.SlotQuery SlotQuery.State slot) = tt
@@ -87,6 +93,7 @@ same_command p available (Command.Channels Channels.CloseQuery chans) = tt
 same_command p available (Command.Channels Channels.CloseCheck chans) = tt
 same_command p available (Command.Channels Channels.Open chans) = tt
 same_command p available (Command.Channels Channels.OpenQuery chans) = tt
+same_command p available (Command.ListingCheck listing) = tt
 same_command p available (Command.Set setting) = tt
 same_command p available (Command.SetStatus setting) = tt
 same_command p available (Command.Macros ask) = tt
@@ -112,9 +119,14 @@ same_hardware p there text f (Refused HardwareMissing) q h = ap (λ (x : Panel).
 same_hardware p there text f (Refused OutOfMemory) q h = ap (λ (x : Panel). x.events) h.2
 same_hardware p there text f a q h = absurd h
 
-same_surety : (p : Panel) (known : Option (List ℕ)) (f : Bool) (a : SessionAnswer) (q : Panel) → StepSurety p known f a q → IsSame p q
-same_surety p known f (Done (Some t)) q h = ap (λ (x : Panel). x.events) h.2
-same_surety p known f a q h = absurd h
+same_surety : (p : Panel) (text : Bool → List ℕ) (f : Bool) (a : SessionAnswer) (q : Panel) → StepSurety p text f a q → IsSame p q
+same_surety p text f (Done (Some t)) q h = ap (λ (x : Panel). x.events) h.2
+same_surety p text f a q h = absurd h
+
+same_listing : (p : Panel) (listing : List ℕ) (f : Bool) (a : SessionAnswer) (q : Panel) → StepListing p listing f a q → IsSame p q
+same_listing p listing f (Done (Some t)) q h = ap (λ (x : Panel). x.events) h.2
+same_listing p listing f (Refused OutOfMemory) q h = ap (λ (x : Panel). x.events) h.1
+same_listing p listing f a q h = absurd h
 
 same_text : (p : Panel) (text : List ℕ) (status : StatusSeen) (f : Bool) (a : SessionAnswer) (q : Panel) → StepText p text status f a q → IsSame p q
 same_text p text status f (Done (Some t)) q h = ap (λ (x : Panel). x.events) h.2
@@ -125,7 +137,7 @@ same_done : (p after : Panel) (f : Bool) (a : SessionAnswer) (q : Panel) → IsS
 same_done p after f (Done None) q s h = same_as p q after h.1 s
 same_done p after f a q s h = absurd h
 
-same_setting : (p : Panel) (Fits : Type 0) (error : ScpiError) (setup : SettingsSeen) (f : Bool) (a : SessionAnswer) (q : Panel)
+same_setting : (p : Panel) (Fits : Type 0) (error : ScpiError) (setup : Setup) (f : Bool) (a : SessionAnswer) (q : Panel)
     → StepSetting p Fits error setup f a q → IsSame p q
 same_setting p Fits error setup f (Done None) q h = ap (λ (x : Panel). x.events) h.2
 same_setting p Fits error setup f (Refused e) q h = ap (λ (x : Panel). x.events) h.3
@@ -144,11 +156,12 @@ same_alone (TellsText text) p f a q n h = same_text p (text p) p.status f a q h
 same_alone (TellsReadings readings) p f a q n h = same_readings (readings p) p f a q h
 same_alone (ReadsOut text after) p f a q n h = same_text p (text p.status) (after p.status) f a q h
 same_alone (SetsStatus after) p f a q n h = same_done p (record p { status = after p.status }) f a q refl h
-same_alone (SetsUp Fits error after) p f a q n h = same_setting p Fits error (after p.settings) f a q h
+same_alone (SetsUp Fits error after) p f a q n h = same_setting p (Fits p.settings) error (after p.settings) f a q h
 same_alone (ClosesListed chans) p f a q n h = same_close p chans f a q h
 same_alone (OpensListed chans) p f a q n h = same_open p chans f a q h
 same_alone (TellsHardware there text) p f a q n h = same_hardware p (there p) (text p) f a q h
-same_alone (TellsSurety known) p f a q n h = same_surety p (known p) f a q h
+same_alone (TellsSurety text) p f a q n h = same_surety p (text p) f a q h
+same_alone (TellsListing listing) p f a q n h = same_listing p listing f a q h
 same_alone (Changes after) p f a q n h = same_done p (after p) f a q n h
 same_alone Resets p f a q n h = same_done p (reset p) f a q refl h
 same_alone (RefusesWith error) p f a q n h = same_refused p error f a q h

@@ -14,7 +14,7 @@ use Rattle.sw_core.specs.declared.ask.SessionAsk.{SessionAsk}
 use Rattle.sw_core.specs.declared.ask.SessionAsk.TheVariants as Ask
 use Rattle.sw_core.specs.declared.ask.SessionAnswer.TheVariants.{Hold}
 use Rattle.sw_core.specs.Panel.{Panel, is_running}
-use Rattle.sw_core.specs.Action.{Effect, TellsText, TellsReadings, ReadsOut, SetsStatus, SetsUp, ClosesListed, OpensListed, TellsHardware, TellsSurety}
+use Rattle.sw_core.specs.Action.{Effect, TellsText, TellsReadings, ReadsOut, SetsStatus, SetsUp, ClosesListed, OpensListed, TellsHardware, TellsSurety, TellsListing}
 use Rattle.sw_core.specs.Action.{Changes}
 use Rattle.sw_core.specs.Action.{Resets, Triggers, RefusesWith, IsOfMacros, Initiates, Action, AtOnce, BetweenScans, AfterScan, action_of}
 use Rattle.sw_core.specs.Event.{last_number}
@@ -50,7 +50,8 @@ alone_held (SetsUp Fits error after) p w q h = h
 alone_held (ClosesListed chans) p w q h = h
 alone_held (OpensListed chans) p w q h = h
 alone_held (TellsHardware there text) p w q h = h
-alone_held (TellsSurety known) p w q h = h
+alone_held (TellsSurety text) p w q h = h
+alone_held (TellsListing listing) p w q h = h
 alone_held (Changes after) p w q h = h
 alone_held Resets p w q h = h
 alone_held (RefusesWith error) p w q h = h

@@ -8,7 +8,7 @@ use Rattle.sw_base.specs.declared.error.ScpiError.TheVariants.{UndefinedHeader, 
 use Rattle.std.specs.Prelude.{map}
 use Rattle.std.specs.List.{join_with_byte}
 use Rattle.sw_base.specs.Reading.{reading_text}
-use Rattle.sw_trigger.specs.Settings.{SettingsSeen}
+use Rattle.sw_verify.specs.declared.setup.Setup.{Setup}
 use Rattle.sw_status.specs.StatusModel.{StatusSeen}
 use Rattle.sw_verify.specs.declared.snapshot.Snapshot.{Snapshot}
 use Rattle.sw_cage.specs.Work.{FinishedSeen}
@@ -22,13 +22,13 @@ use Rattle.sw_core.specs.declared.ask.SessionAnswer.{SessionAnswer}
 use Rattle.sw_core.specs.declared.ask.SessionAnswer.TheVariants as answers
 use Rattle.sw_core.specs.declared.ask.SessionAnswer.TheVariants.{Joined, Full, Stranger, Broken, Done, Refused, Hold, Worn}
 use Rattle.sw_core.specs.Panel.{Panel, is_running}
-use Rattle.sw_core.specs.Action.{Effect, TellsText, TellsReadings, ReadsOut, SetsStatus, SetsUp, ClosesListed, OpensListed, TellsHardware, TellsSurety}
+use Rattle.sw_core.specs.Action.{Effect, TellsText, TellsReadings, ReadsOut, SetsStatus, SetsUp, ClosesListed, OpensListed, TellsHardware, TellsSurety, TellsListing}
 use Rattle.sw_core.specs.Action.{Changes}
 use Rattle.sw_core.specs.Action.{Resets, reset, Triggers, RefusesWith, IsOfMacros, Initiates, Action, AtOnce, BetweenScans, AfterScan, action_of}
 use Rattle.sw_core.specs.Event.{concluded, session_concluded, last_number}
 use Rattle.sw_core.specs.Seats.{asker_of, StepSeat, StepLock}
 use Rattle.sw_core.specs.Sessions.{SessionsSeen}
-use Rattle.sw_core.specs.Step.{StepClose, StepOpen, StepHardware, StepSurety, StepText, StepDone, StepSetting, StepRefused, StepReadings, StepAlone}
+use Rattle.sw_core.specs.Step.{StepClose, StepOpen, StepHardware, StepSurety, StepListing, StepText, StepDone, StepSetting, StepRefused, StepReadings, StepAlone}
 use Rattle.sw_core.specs.Step.{session_told, StepHappens, StepEffect, StepHeld, StepAction, StepSnapshot, StepStart, IsServed, StepJoined, StepAdmitted}
 use Rattle.sw_core.specs.Step.{StepJoin, StepAttach, StepNew, StepSession, outside_told, StepOutside, StepFinished}
 use Rattle.sw_core.specs.Step.{Acts, acts_unnumbered, IsUnnumbered, IsEvent, Step}
@@ -72,10 +72,16 @@ stays_hardware p there text f (Done t) q h = tt
 stays_hardware p there text f (Refused e) q h = tt
 stays_hardware p there text f a q h = absurd h
 
-stays_surety : (p : Panel) (known : Option (List ℕ)) (f : Bool) (a : SessionAnswer) (q : Panel) → StepSurety p known f a q
+stays_surety : (p : Panel) (text : Bool → List ℕ) (f : Bool) (a : SessionAnswer) (q : Panel) → StepSurety p text f a q
     → Stays (is_session_event a) p q
-stays_surety p known f (Done t) q h = tt
-stays_surety p known f a q h = absurd h
+stays_surety p text f (Done t) q h = tt
+stays_surety p text f a q h = absurd h
+
+stays_listing : (p : Panel) (listing : List ℕ) (f : Bool) (a : SessionAnswer) (q : Panel) → StepListing p listing f a q
+    → Stays (is_session_event a) p q
+stays_listing p listing f (Done t) q h = tt
+stays_listing p listing f (Refused e) q h = tt
+stays_listing p listing f a q h = absurd h
 
 stays_text : (p : Panel) (text : List ℕ) (status : StatusSeen) (f : Bool) (a : SessionAnswer) (q : Panel) → StepText p text status f a q
     → Stays (is_session_event a) p q
@@ -87,7 +93,7 @@ stays_done : (p after : Panel) (f : Bool) (a : SessionAnswer) (q : Panel) → St
 stays_done p after f (Done text) q h = tt
 stays_done p after f a q h = absurd h
 
-stays_setting : (p : Panel) (Fits : Type 0) (error : ScpiError) (setup : SettingsSeen) (f : Bool) (a : SessionAnswer) (q : Panel)
+stays_setting : (p : Panel) (Fits : Type 0) (error : ScpiError) (setup : Setup) (f : Bool) (a : SessionAnswer) (q : Panel)
     → StepSetting p Fits error setup f a q → Stays (is_session_event a) p q
 stays_setting p Fits error setup f (Done text) q h = tt
 stays_setting p Fits error setup f (Refused e) q h = tt
@@ -106,11 +112,12 @@ stays_alone (TellsText text) p f a q h = stays_text p (text p) p.status f a q h
 stays_alone (TellsReadings readings) p f a q h = stays_readings (readings p) p f a q h
 stays_alone (ReadsOut text after) p f a q h = stays_text p (text p.status) (after p.status) f a q h
 stays_alone (SetsStatus after) p f a q h = stays_done p (record p { status = after p.status }) f a q h
-stays_alone (SetsUp Fits error after) p f a q h = stays_setting p Fits error (after p.settings) f a q h
+stays_alone (SetsUp Fits error after) p f a q h = stays_setting p (Fits p.settings) error (after p.settings) f a q h
 stays_alone (ClosesListed chans) p f a q h = stays_close p chans f a q h
 stays_alone (OpensListed chans) p f a q h = stays_open p chans f a q h
 stays_alone (TellsHardware there text) p f a q h = stays_hardware p (there p) (text p) f a q h
-stays_alone (TellsSurety known) p f a q h = stays_surety p (known p) f a q h
+stays_alone (TellsSurety text) p f a q h = stays_surety p (text p) f a q h
+stays_alone (TellsListing listing) p f a q h = stays_listing p listing f a q h
 stays_alone (Changes after) p f a q h = stays_done p (after p) f a q h
 stays_alone Resets p f a q h = stays_done p (reset p) f a q h
 stays_alone (RefusesWith error) p f a q h = stays_refused p error f a q h

@@ -1,4 +1,4 @@
--- A source whose first bytes were read ahead.
+-- A source that gives again what was read ahead of it.
 use Rattle.std.specs.Prelude.{ℕ, List, Option}
 use Rattle.std.specs.Io.KnownBytes.{prepend_known}
 

@@ -1,4 +1,4 @@
--- The status board: its word is the pair of the last entry of one history, of which each seat has seen a beginning.
+-- The status board: its word is the pair of the last entry of one history; each seat has seen a beginning of that.
 use Rattle.std.specs.Prelude.{◌≡◌, ◌⊎◌, ℕ, ◌+◌, ◌/◌, ◌%◌, ◌<◌, ◌≤◌, Bool, true, false, List, [], ◌∷◌, ◌++◌}
 use Rattle.std.specs.Prelude.{Option, None, Some}
 use Rattle.std.specs.Option.{unwrap_or}
@@ -18,7 +18,7 @@ Nothing = Unit {0}
 abbrev pub pair_in : ℕ → ℕ × ℕ
 pair_in word = (word % 256, word / 256)
 
--- What a seat knows. One that is spent knows nothing.
+-- What a seat knows. A spent seat knows nothing.
 pub record Known : Type 0 where
   -- it isn't spent
   pub live : Bool
@@ -28,11 +28,11 @@ pub record Known : Type 0 where
   pub seen : List HistoryEntry
   -- how far another seat that was joined to it had seen it
   pub told : List HistoryEntry
-  -- it is the one that publishes
+  -- this seat publishes
   pub publishes : Bool
   -- how many desks there are, where it publishes
   pub made : ℕ
-  -- the desk whose seat it is
+  -- its desk, where it has one
   pub desk : Option ℕ
   -- all entries of that desk
   pub mine : List HistoryEntry
@@ -105,8 +105,8 @@ Published said s v word w = (w.0 ≡ published v.0 said) × (w.1 ≡ v.1)
 
 -- ---- read
 
--- The seat has seen no less than it had, nor than it was told of, and the word is the last pair of what it has seen.
--- Who publishes has seen all. Of a desk it has all entries.
+-- The seat has seen no less than it had, nor than a seat that was joined to it had, and the word is the last pair of
+-- what it has seen. The seat that publishes has seen all. Of a desk it has all entries.
 pub record Saw (v : Known) (word : ℕ) (w : Known) : Type 0 where
   pub same : (w.live ≡ v.live) × (w.opening ≡ v.opening) × (w.publishes ≡ v.publishes) × (w.made ≡ v.made)
       × (w.desk ≡ v.desk) × (w.mine ≡ v.mine) × (w.told ≡ v.told)
@@ -118,7 +118,7 @@ pub record Saw (v : Known) (word : ℕ) (w : Known) : Type 0 where
 abbrev pub Sees : Step Nothing → Me Nothing Known → ℕ → Me Nothing Known → Type 0
 Sees s v word w = Saw v.0 word w.0 × (w.1 ≡ v.1)
 
--- the seat has then seen the further of what it had seen and what it was told of
+-- the seat has then seen the further of what it had seen and what a seat that was joined to it had
 pub record Settled (v : Known) (w : Known) : Type 0 where
   pub same : (w.live ≡ v.live) × (w.opening ≡ v.opening) × (w.publishes ≡ v.publishes) × (w.made ≡ v.made)
       × (w.desk ≡ v.desk) × (w.mine ≡ v.mine)
@@ -150,11 +150,11 @@ of_desk v = record v { told = []; publishes = false; made = 0 }
 
 -- ---- join
 
--- the seat is told what the other had seen
+-- the seat learns what the other had seen
 abbrev pub told_known : Known → Known → Known
 told_known v w = record v { told = w.seen }
 
--- the seat takes the other's desk over, and is told what that had seen
+-- the seat takes the other's desk over, and learns what that had seen
 abbrev pub desk_taken_over : Known → Known → Known
 desk_taken_over v w = record v { told = w.seen; desk = w.desk; mine = w.mine }
 

@@ -41,10 +41,10 @@ pub record EndsAtRest (start : Panel) (history : List HistoryEntry) (panel : Pan
   pub opens : IsOpened past opened
   pub rests : StaysAtRest opened behind panel
 
--- A mainframe that opened so, which was fresh, is closed down: its history has led to a panel, which is reached, after
--- so many events in all; it ends at rest behind an abort; and these cards come out, by slot: each that stood in its slot then, with every relay open. Of
--- an empty slot there is none, and so there is none of one whose card is out at a measurement: that slot of a mainframe
--- that is reached is empty (IsHeld).
+-- A mainframe that opened so, which was fresh, is closed down. Its history has led to a panel, which is reached, after
+-- this many events in all. It ends at rest behind an abort. These cards come out, by slot: each that was in its slot
+-- then, with every relay open. An empty slot gives none, and so does the slot of a card that is out at a measurement:
+-- in a mainframe that is reached that slot is empty (IsHeld).
 pub record IsClosedDown (start : Panel) (events : ℕ) (cards : Accounts) : Type 0 where
   pub panel : Panel
   pub history : List HistoryEntry

@@ -19,8 +19,8 @@ channel_by_header (h ∷ s ∷ kind ∷ rest) =
     if (h == 72) && (s == 83) && (kind == kind_number AsyncInitialize) then Asynchronous else Synchronous
 channel_by_header bytes = Synchronous
 
--- What befell a connection: in its first header a read failed, with this left to be read, and with so many reads ended
--- by a time limit; later a read failed; a write failed; what was left to the session's other thread was refused.
+-- What failed on a connection: a read failed in its first header, with this left to be read, and with this many reads
+-- ended by a time limit; a read failed later; a write failed; what was left to the session's other thread was refused.
 pub record Mishaps : Type 1 where
   pub unheard : (rest : Option (List ℕ)) → (pauses : Option ℕ) → Type 0
   pub unread : Type 0
@@ -34,7 +34,7 @@ pub record Unheard {R : Type 0} (reads : Source.Ghosts R) (rest : Option (List �
   pub rest_is : rest ≡ reads.remaining reader
   pub pauses_is : pauses ≡ reads.pauses reader
 
--- What the reader, the writer and the second way to the client tell of that, as the run leaves them: a failed read led
+-- What the reader, the writer and the second way to the client say of that, as the run leaves them: a failed read led
 -- to this reader, a failed write to this writer. The second way is written to before a read, which then fails with it.
 abbrev pub mishaps : {R W S : Type 0} → Source.Ghosts R → Sink.Ghosts W → Sink.Ghosts S → (refused : Type 0)
     → (reader : R) → (writer : W) → (aside : S) → Mishaps
@@ -45,8 +45,8 @@ mishaps reads writes writes_aside refused reader writer aside = record {
   refused = refused;
 }
 
--- where the server of a connection stands: its desk, what is left to be read, how many reads a time limit has ended so
--- far, where that is known, and what was written
+-- the state of a connection's server: its desk, what is left to be read, how many reads a time limit has ended so far,
+-- where that is known, and what was written
 pub record ConnectionSeen (D : Type 0) : Type 0 where
   pub desk : D
   pub input : Option (List ℕ)
@@ -60,15 +60,15 @@ connection_seen desk input pauses output = record { desk = desk; input = input; 
 abbrev pub beside : {D : Type 0} → Option (List ℕ) → ConnectionSeen D → Station D
 beside side a = record { desk = a.desk; input = a.input; pauses = a.pauses; main = a.output; side = side }
 
--- time limits ended some reads meanwhile, and their count, where it is known, went on by as many
+-- time limits ended some reads meanwhile, and their count, where it is known, rose by as many
 pub record Waited (before after : Option ℕ) : Type 0 where
   pub reads : ℕ
   pub counts : PausesBy before after reads
 
--- A connection is served from its first byte on, as the channel that its first header tells. The header is whole,
--- unless the input ended or failed in it; time limits may have ended reads in it. A run that ends by a read fault has a
--- read that failed; one that ends by a write fault a write that failed, or else it is of the first channel, and what it
--- left to the second one was refused.
+-- A connection is served from its first byte on, as the channel that its first header names. The header is whole,
+-- unless the input ended or failed in it; time limits may have ended reads in it. After a run that ends by a read
+-- fault, a read has failed. After one that ends by a write fault, a write has failed, or else the run is of the first
+-- channel, and what it left to the second one was refused.
 pub record ServesFromHeader {D : Type 0} (passes : D → Entry → D → Type 0) (m : Mishaps) (turns : ℕ)
     (before after : ConnectionSeen D) (result : Result (Unit {0}) ServeFault) : Type 0 where
   pub header : List ℕ

@@ -2,8 +2,8 @@
 use Rattle.std.specs.Prelude.{ℕ, ◌==◌, List, [], ◌∷◌, filter}
 use Rattle.sw_core.specs.Seen.{AskSeen, AnswerSeen}
 
--- one event: the number of events after it, whose it was, what was asked and answered, and the pair after it: the
--- status byte without bits 4 and 6, and the number of service requests so far
+-- one event: the number of events after it, its desk, what was asked and answered, and the pair after it: the status
+-- byte without bits 4 and 6, and the number of service requests so far
 pub record HistoryEntry : Type 0 where
   pub number : ℕ
   pub desk : ℕ

@@ -14,7 +14,7 @@ pub record Locked : Type 0 where
   pub history : List HistoryEntry
   pub turn : ℕ
 
--- how many events are told of
+-- how many events have a note
 abbrev pub most_notes : ℕ
 most_notes = 64
 

@@ -1,5 +1,5 @@
--- The history of a mainframe: its events, each a step of the core from what the one before it left. What an ask tells
--- the desk that made it.
+-- The history of a mainframe: its events, each a step of the core from what the one before it left. What a desk learns
+-- from its ask.
 use Rattle.std.specs.Prelude.{◌≡◌, ℕ, Bool, true, false, List, [], ◌∷◌, ◌++◌, Some, None}
 use mathlib.Core.List.{IsPrefix}
 use Rattle.sw_status.specs.StatusModel.{summary_of}
@@ -45,7 +45,7 @@ abbrev pub grown : Bool → List HistoryEntry → HistoryEntry → List HistoryE
 grown true entries e = entries ++ e ∷ []
 grown false entries e = entries
 
--- What was asked at panel p stands with its answer in one new entry of the desk, which has seen the history up to it.
+-- What was asked at panel p is with its answer in one new entry of the desk, which has seen the history up to it.
 pub record Entered (start p : Panel) (v : Known) (e : Event) (w : Known) : Type 0 where
   pub before : List HistoryEntry
   pub entry : HistoryEntry
@@ -69,9 +69,9 @@ abbrev pub SeatTold : Bool → Panel → Panel → Known → Event → Known →
 SeatTold true start p v e w = Entered start p v e w
 SeatTold false start p v e w = Replied start p v e w
 
--- What an ask at panel p tells its desk: it is a step, and stands in the history where it is an event, right after what
+-- What a desk learns from its ask at panel p. The ask is a step; an event is an entry of the history right after what
 -- led to p. What the desk has then seen is the history of a mainframe that opened so, and has the entries that the desk
--- made and no others of it.
+-- made and no others of that desk.
 pub record AsksInHistory (start p : Panel) (v : Known) (e : Event) (w : Known) : Type 0 where
   pub next : IsNextEvent p e
   pub told : SeatTold (is_event e.answer) start p v e w
@@ -84,7 +84,7 @@ pub record InHistory : Type 0 where
   pub panel : Panel
   pub history : List HistoryEntry
 
--- *OPC? of the session is held
+-- the mainframe holds the session's *OPC?
 abbrev pub AwaitsEnd : Panel → Sid → Type 0
 AwaitsEnd p sid = Step p (AskSession (Ask.Unit sid (Plain OperationCompleteQuery) false)) false
     (SaysSession (Hold (Ask.Unit sid (Plain OperationCompleteQuery) false)) None) p

@@ -1,4 +1,4 @@
--- What is so of every ask that a desk makes, and of every history.
+-- Laws over every ask that a desk makes, and over every history.
 use Rattle.std.specs.Prelude.{◌≡◌, ◌+◌, ◌==◌, ℕ, true, false, not, List, [], ◌∷◌, ◌++◌, map}
 use Rattle.sw_verify.specs.declared.snapshot.Snapshot.{Snapshot}
 use Rattle.sw_core.specs.Ends.{last_of, BeginsScan, ScanEnds}
@@ -36,7 +36,7 @@ pub record EachEventIsCounted : Type 0 where
   pub others : (start : Panel) (ask : AskSeen) (answer : AnswerSeen) (old new : AtDesk)
       → AsksOnce start ask answer old new → is_event answer ≡ false → new.amount ≡ old.amount
 
--- what an entry says, whosever it is, and what there is to say of an event
+-- what an entry says, whichever desk made it, and what there is to say of an event
 abbrev pub said_of : HistoryEntry → Said
 said_of e = record { number = e.number; ask = e.ask; answer = e.answer; pair = e.pair }
 
@@ -44,8 +44,8 @@ abbrev pub said_by : Event → Said
 said_by e = said_at e.panel e.ask e.answer
 
 -- The history is a run from the panel that it began at: one event for each entry, with its ask and its answer, and with
--- the number and the pair that it tells. Each of them leaves the mainframe good, and does what else is so of every
--- event; and each scan that begins in one of them does what its plan says, and ends.
+-- the entry's number and pair. Each of them leaves the mainframe good, and has the other properties of every event.
+-- Each scan that begins in one of them does what its plan says, and ends.
 pub record IsRunFrom (start : Panel) (entries : List HistoryEntry) (panel : Panel) : Type 0 where
   pub events : List Event
   pub told : map said_of entries ≡ map said_by events

@@ -1,4 +1,4 @@
--- What opens every relay, whoever has a lock.
+-- What opens every relay, whichever session has a lock.
 use Rattle.std.specs.Prelude.{◌≡◌, ◌≢◌, ◌⊎◌, ℕ, ◌+◌, ◌*◌, ◌≤◌, true, false, List, [], ◌∷◌, ◌++◌, length, is_some}
 use Rattle.std.specs.Prelude.{zero, suc, None, Some}
 use Rattle.sw_base.specs.Limits.{most_slots}
@@ -17,8 +17,8 @@ abbrev pub HaveChannels : Accounts → Type 0
 HaveChannels rack = (slot : ℕ) (card : Account)
     → slot_at rack slot ≡ Some card → is_meter card ≡ false → 1 ≤ length card.groups
 
--- What comes of one slot: it has nothing closed, and nothing is closed that was not; the cards are as they were but for
--- what is closed; and a scan has ended, unless the slot has no card and the cage is as it was.
+-- What opening one slot does: the slot has nothing closed, and nothing is closed that was not; the cards are as they
+-- were but for what is closed; and a scan has ended, unless the slot has no card and the cage is as it was.
 pub record Reopens (p : Panel) (slot : ℕ) (q : Panel) : Type 0 where
   pub closed : (c : Channel) → is_closed q.cage.cards c ≡ true → (is_closed p.cage.cards c ≡ true) × (c.0 ≢ slot)
   pub events : q.events ≤ p.events + 2
@@ -33,7 +33,7 @@ pub record IsOpened (p q : Panel) : Type 0 where
   pub back : p.events + 2 * most_slots ≤ last_number → HaveChannels p.cage.cards
       → all_open q.cage.cards ≡ all_open p.cage.cards
 
--- the slots whose cards are asked out by these entries, in their order
+-- the slots whose cards these entries ask out, in their order
 abbrev pub out_by : AskSeen → List ℕ
 out_by (AskEject slot) = slot ∷ []
 out_by ask = []
@@ -42,7 +42,7 @@ abbrev pub slots_out : List HistoryEntry → List ℕ
 slots_out [] = []
 slots_out (e ∷ entries) = out_by e.ask ++ slots_out entries
 
--- the first so many slots
+-- the slots 1 to n
 abbrev pub first_slots : ℕ → List ℕ
 first_slots zero = []
 first_slots (suc n) = first_slots n ++ (n + 1) ∷ []
@@ -57,8 +57,8 @@ abbrev pub AreOfCards : List HistoryEntry → Type 0
 AreOfCards [] = Unit {0}
 AreOfCards (e ∷ entries) = IsOfCard e.ask × AreOfCards entries
 
--- These entries lead from p to q. By them the cards of the first so many slots are asked out in turn, and nothing else
--- is asked but that cards go in.
+-- These entries lead from p to q. They ask the cards of slots 1 to `slots` out in turn, and ask nothing else but that
+-- cards go in.
 pub record AddsSlots (p : Panel) (entries : List HistoryEntry) (slots : ℕ) (q : Panel) : Type 0 where
   pub leads : IsHistory p entries q
   pub out : slots_out entries ≡ first_slots slots
@@ -72,7 +72,7 @@ pub record AddsSlot (p : Panel) (old : List HistoryEntry) (slot : ℕ) (q : Pane
   pub out : slots_out entries ≡ slot ∷ []
   pub cards : AreOfCards entries
 
--- The history that a desk has seen now leads to a panel where all is opened, from whatever panel was behind the lock.
+-- The history that a desk has now seen leads to a panel where all is open, from the panel that was behind the lock.
 pub record OpensAll (start : Panel) (new : AtDesk) : Type 0 where
   pub before : Panel
   pub after : Panel

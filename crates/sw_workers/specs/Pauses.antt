@@ -21,12 +21,12 @@ abbrev pub is_latest : Option Ticket → Ticket → Bool
 is_latest None ticket = true
 is_latest (Some latest) ticket = is_earlier latest ticket
 
--- a pause stands once it came, unless a later one had come: what stood before it is stale
+-- a pause is current once it came, unless a later one had come; the one before it is stale
 abbrev pub with_pause : Standing → Pause → Standing
 with_pause s pause =
     if is_latest s.latest pause.ticket then record { latest = Some pause.ticket; stands = Some pause } else s
 
--- the pause that stood is over
+-- the current pause is over
 abbrev pub with_none : Standing → Standing
 with_none s = record s { stands = None }
 
@@ -36,17 +36,17 @@ after_next s (Begins pause) = with_pause s pause
 after_next s (Ends ticket) = with_none s
 after_next s Over = s
 
--- Only the pause that stands ends, under its own ticket, once its end has come.
+-- Only the current pause ends, under its own ticket, once its end has come.
 abbrev pub EndsStanding : (reached : Instant → Type 0) → Option Pause → Next → Type 0
 EndsStanding reached None (Ends ticket) = ⊥
 EndsStanding reached (Some pause) (Ends ticket) = (ticket ≡ pause.ticket) × reached pause.at
 EndsStanding reached stands next = Unit {0}
 
--- a pause that begins was received
+-- the worker received a pause that begins
 abbrev pub BeginsArrived : (arrived : Pause → Type 0) → Next → Type 0
 BeginsArrived arrived (Begins pause) = arrived pause
 BeginsArrived arrived next = Unit {0}
 
--- the pause that stands was received
+-- the worker received the current pause
 abbrev pub IsOfArrived : (arrived : Pause → Type 0) → Standing → Type 0
 IsOfArrived arrived s = IfSome s.stands arrived

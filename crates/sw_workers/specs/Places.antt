@@ -1,4 +1,4 @@
--- The place of a session in what has one for each, and which session it is that joins or leaves.
+-- The place of a session in a list with one place for each, and which session joins or leaves.
 use Rattle.std.specs.Prelude.{ℕ, ◌-◌, ◌&&◌, nat_le, Option, None, Some, if◌then◌else◌}
 use Rattle.sw_base.specs.Limits.{most_sessions}
 use Rattle.sw_core.specs.declared.ask.Sid.{Sid}
@@ -11,7 +11,7 @@ use Rattle.sw_session.specs.declared.available.Seating.TheVariants.{Joins, Leave
 abbrev pub place_of : ℕ → Option ℕ
 place_of number = if nat_le 1 number && nat_le number most_sessions then Some (number - 1) else None
 
--- by an ask that is to change this about who has joined, and its answer
+-- by an ask that is to change the joined sessions like this, and its answer
 abbrev pub who_moves : Seating → SessionAnswer → Option Sid
 who_moves Joins (Joined sid) = Some sid
 who_moves (Leaves sid) answer = Some sid

@@ -1,4 +1,4 @@
--- After which events those who wait may go on: no event after which nobody does ends what holds anybody.
+-- The events after which waiting sessions may proceed: no other event ends what holds an ask.
 use Rattle.std.specs.Prelude.{◌≡◌, ◌↔◌, ◌==◌, ◌+◌, ◌&&◌, ◌||◌, ℕ, Bool, true, false, not, None, is_none, if◌then◌else◌}
 use Rattle.sw_lex.specs.declared.command.Command.{Command}
 use Rattle.sw_lex.specs.declared.command.Command.TheVariants as command
@@ -16,7 +16,7 @@ use Rattle.sw_workers.specs.declared.waking.Concern.TheVariants.{Nobody, Seats, 
 use Rattle.sw_workers.specs.History.{AwaitsEnd}
 use Rattle.sw_workers.specs.Shares.{is_event}
 
--- a command that may end the scan that runs: it stops it, or is a happening that the scan may take
+-- a command that may end the scan that runs: it stops the scan, or is a happening that the scan may take
 abbrev pub may_end : Command → Bool
 may_end (command.Plain plain.Abort) = true
 may_end (command.Plain plain.Reset) = true
@@ -24,7 +24,7 @@ may_end (command.Plain plain.Trigger) = true
 may_end (command.Signal layer) = true
 may_end unit = false
 
--- what a session's ask may end of what holds those who wait: locks and clears, or the scan
+-- the causes of a hold that a session's ask may end: locks and clears, or the scan
 abbrev pub session_concern : SessionAsk → Concern
 session_concern Ask.Join = Nobody
 session_concern (Ask.Attach number) = Nobody
@@ -51,21 +51,21 @@ concern_of AskExternal = Scan
 concern_of (AskElapsed ticket) = Scan
 concern_of (AskFinished done) = Scan
 
--- Locks or clears may be others after an event that is answered so: a lock or a release that is an error leaves them.
+-- An event with this answer may change locks or clears: a lock or a release that is an error leaves them.
 abbrev pub changes_seats : AnswerSeen → Bool
 changes_seats (SaysSession (Lock code) work) = not (code == 3)
 changes_seats answer = true
 
--- The scan may be over after an event that no session asked for: it isn't where work comes of it, nor where no scan
--- took it. A card's failure ends it.
+-- The scan may be over after an event for which no session asked: it isn't where the event brings work, nor where no
+-- scan took it. A card's failure ends it.
 abbrev pub may_be_over : AnswerSeen → Bool
 may_be_over (SaysTaken work) = is_none work
 may_be_over SaysMissed = false
 may_be_over (SaysNotEjected refusal) = false
 may_be_over answer = true
 
--- Those who wait may go on after an answer. Of what a session asks of the scan that is where a scan ran before it, and
--- none does after it.
+-- Waiting sessions may proceed after an answer. For a session's ask that may end the scan, that is where a scan ran
+-- before it and none runs after it.
 abbrev pub wakes : Concern → Bool → Bool → AnswerSeen → Bool
 wakes Nobody ran runs answer = false
 wakes Seats ran runs answer = is_event answer && changes_seats answer
@@ -75,24 +75,24 @@ wakes Scan ran runs answer = is_event answer && may_be_over answer
 abbrev pub next_turn : ℕ → ℕ
 next_turn turn = if turn == last_number then 0 else turn + 1
 
--- The turn after an ask: another one where those who wait may go on, and where no event can be numbered any more.
+-- The turn after an ask: another one where waiting sessions may proceed, and where no more events can be numbered.
 abbrev pub turn_after : ℕ → Bool → ℕ → ℕ
 turn_after turn may_go_on events = if may_go_on || (events == last_number) then next_turn turn else turn
 
--- the session's ask is held at this panel
+-- the mainframe holds the session's ask at this panel
 abbrev pub IsKeptWaiting : Panel → SessionAsk → Type 0
 IsKeptWaiting p ask = Step p (AskSession ask) false (SaysSession (Hold ask) None) p
 
--- whatever is held at one panel is held at the other
+-- what the mainframe holds at one panel it holds at the other
 abbrev pub HoldsOn : Panel → Panel → Type 0
 HoldsOn p q = (ask : SessionAsk) → IsKeptWaiting p ask → IsKeptWaiting q ask
 
--- whether a scan runs, where a session's ask may end it: as its *OPC? would be held
+-- whether a scan runs, where a session's ask may end it: as the mainframe would hold that session's *OPC?
 abbrev pub TellsScan : Concern → Panel → Bool → Type 0
 TellsScan (ScanBy sid) p runs = (runs ≡ true) ↔ AwaitsEnd p sid
 TellsScan concern p runs = Unit {0}
 
--- A step that ends a hold takes the turn: where the turn stays, all that was held is held still.
+-- A step that ends a hold changes the turn: where the turn stays, the mainframe still holds all that it held.
 pub record WhoMayGoOnIsWoken : Type 0 where
   pub law : (p q : Panel) (ask : AskSeen) (failed : Bool) (answer : AnswerSeen) (ran runs : Bool) (turn : ℕ)
       → Step p ask failed answer q → TellsScan (concern_of ask) p ran → TellsScan (concern_of ask) q runs

@@ -30,7 +30,7 @@ pub record MadeAsk : Type 0 where
   pub knew : Known
   pub knows : Known
 
--- it is a step of a mainframe that opened so, and stands in its history
+-- it is a step of a mainframe that opened so, and in its history
 abbrev pub IsMade : Panel → MadeAsk → Type 0
 IsMade start m = AsksInHistory start m.before m.knew m.event m.knows
 
@@ -39,7 +39,7 @@ abbrev pub events_of : List MadeAsk → ℕ
 events_of [] = 0
 events_of (m ∷ made) = one_if (is_counted m.before.events m.event.answer) + events_of made
 
--- what the seat knows goes on from one to the next
+-- what the seat knows continues from one to the next
 abbrev pub Learns : Known → List MadeAsk → Known → Type 0
 Learns v [] w = w ≡ v
 Learns v (m ∷ made) w = (m.knew ≡ v) × Learns m.knows made w
@@ -52,7 +52,7 @@ pub record AsksOnce (start : Panel) (ask : AskSeen) (answer : AnswerSeen) (old n
   pub history : AsksInHistory start before old.seat (event ask answer after) new.seat
   pub counts : new.amount ≡ old.amount + one_if (is_counted before.events answer)
 
--- The work was sent, or there was none; or it was carried out, and so on with what that brought.
+-- The work was sent, or there was none. Or it was carried out, and the same holds of what that brought.
 abbrev pub Carries : Panel → Option WorkSeen → List MadeAsk → Type 0
 Carries start work [] = Unit {0}
 Carries start None (m ∷ made) = ⊥
@@ -76,7 +76,7 @@ abbrev pub IsSentOn : (WorkSeen → Type 0) → Option WorkSeen → Type 0
 IsSentOn sent None = Unit {0}
 IsSentOn sent (Some piece) = sent piece
 
--- no piece was dropped: each was carried out and told, but for the last, which was sent
+-- no piece was dropped: each was carried out and reported, but for the last, which was sent
 pub record SeesToWork (start : Panel) (sent : WorkSeen → Type 0) (work : Option WorkSeen) (old new : AtDesk) : Type 0
   where
     pub adds : Adds start work old new
@@ -87,21 +87,21 @@ abbrev pub IsRested : (ℕ → Type 0) → WorkSeen → Type 0
 IsRested rested (Pauses ticket micros) = rested micros
 IsRested rested (Measures job) = Unit {0}
 
--- the mainframe was told this, which brought this work
+-- the mainframe got this ask, which brought this work
 pub record Brings (start : Panel) (ask : AskSeen) (old : AtDesk) (brings : Option WorkSeen) (new : AtDesk)
     : Type 0 where
   pub answer : AnswerSeen
   pub asks : AsksOnce start ask answer old new
   pub brings_is : brings ≡ brought answer
 
--- one piece was carried out and the mainframe told, which brought this
+-- one piece was carried out and reported to the mainframe, which brought this
 pub record EndsPiece (start : Panel) (piece : WorkSeen) (old : AtDesk) (brings : Option WorkSeen) (new : AtDesk)
     : Type 0 where
   pub ask : AskSeen
   pub tells : TellsOfPiece piece ask
   pub told : Brings start ask old brings new
 
--- the mainframe was told of a piece of work that was the worker's to tell of, or that was left to be done
+-- the ask reports a piece of work that was the worker's own, or that was left to be done
 pub record IsToldOfWork (start : Panel) (own : WorkSeen → Type 0) (left : Option WorkSeen) (m : MadeAsk) : Type 0
   where
     pub piece : WorkSeen
@@ -109,13 +109,14 @@ pub record IsToldOfWork (start : Panel) (own : WorkSeen → Type 0) (left : Opti
     pub tells : TellsOfPiece piece m.event.ask
     pub made : IsMade start m
 
--- each piece that was told was the worker's own, or came of the one told before it; at first this is left to be done
+-- each piece that was reported was the worker's own, or came of the one reported before it; at first this is left to be
+-- done
 abbrev pub AreTold : Panel → (own : WorkSeen → Type 0) → (left : Option WorkSeen) → List MadeAsk → Type 0
 AreTold start own left [] = Unit {0}
 AreTold start own left (m ∷ made) =
     IsToldOfWork start own left m × AreTold start own (brought m.event.answer) made
 
--- what a worker's desk counts and knows: the events of what it told of such work, and no others
+-- what a worker's desk counts and knows: the events of its reports of such work, and no others
 pub record Works (start : Panel) (own : WorkSeen → Type 0) (left : Option WorkSeen) (old new : AtDesk) : Type 0
   where
     pub made : List MadeAsk
@@ -161,11 +162,11 @@ pub record DeskSeen : Type 0 where
 abbrev pub desk_seen : AtDesk → Option Sid → DeskSeen
 desk_seen part serves = record { part = part; serves = serves }
 
--- the session that is served after an ask: one that it joined or attached to, until it is left
+-- the session that the desk serves after an ask: one that it joined or attached to, until it leaves that
 abbrev pub serves_after : Option Sid → SessionAsk → SessionAnswer → Option Sid
 serves_after serves ask answer = serving_after serves (is_leave ask) answer
 
--- the session that the desk serves is left, as if that were asked, and no other
+-- the desk leaves the session that it serves, as if that were asked, and no other
 pub record LeavesServed (start : Panel) (old new : DeskSeen) : Type 0 where
   pub sid : Sid
   pub served : old.serves ≡ Some sid
@@ -173,17 +174,18 @@ pub record LeavesServed (start : Panel) (old new : DeskSeen) : Type 0 where
   pub answers : AnswersDesk start (Ask.Leave sid) answer old.part new.part
   pub serves : new.serves ≡ serves_after old.serves (Ask.Leave sid) answer
 
--- where no session is served, none is left
+-- where the desk serves no session, it leaves none
 abbrev pub Deserts : Panel → DeskSeen → DeskSeen → Type 0
 Deserts start old new = ((old.serves ≡ None) × (new ≡ old)) ⊎ LeavesServed start old new
 
--- A wait that is over by itself changes nothing; one whose client was found gone leaves the session that is served.
+-- A wait that is over by itself changes nothing. One that found its client gone leaves the session that the desk
+-- serves.
 abbrev pub Rests : Panel → (ended gone : Type 0) → (limit : Option ℕ) → Wake → DeskSeen → DeskSeen → Type 0
 Rests start ended gone limit Over old new = (MayEnd ended limit × (new ≡ old)) ⊎ (gone × Deserts start old new)
 Rests start ended gone limit (Again left) old new = new ≡ old
 
--- How a desk of a mainframe that opened so goes on, where its end has begun and where a client was found gone. Only an
--- ask counts events, and a wait that leaves the session.
+-- What a desk of a mainframe that opened so counts and knows after each entry, where the mainframe's end has begun and
+-- where a client was found gone. Only an ask counts events, and a wait that leaves the session.
 abbrev pub DeskPasses : Panel → (ended gone : Type 0) → DeskSeen → Entry → DeskSeen → Type 0
 DeskPasses start ended gone old (Asked ask answer) new =
     AnswersDesk start ask answer old.part new.part × (new.serves ≡ serves_after old.serves ask answer)

@@ -1,4 +1,4 @@
-//! A source whose first bytes were read ahead.
+//! A source that gives again what was read ahead of it.
 
 ghost use Rattle.std.specs.Prelude.{◌≡◌, ◌≤◌, ◌<◌, ◌⊎◌, true, nat_lt, [], ◌++◌, length, take, drop};
 ghost use Rattle.std.specs.Prelude.{vec_capacity, OnOk, OnErr};
@@ -18,8 +18,8 @@ use sw_session::{Channel, Source, Unread};
 /// The bytes of a header.
 pub const HEADER: usize = 16;
 
-/// Reads until a header is whole, or the input ends or fails. A read that a time limit ended is asked again, until the
-/// connection has stood for too long.
+/// Reads until a header is whole, or the input ends or fails. It repeats a read that a time limit ended, until the
+/// connection has been open for too long.
 #[tactic(auto, using(crate::proofs::ServingLemmas::waited_none, crate::proofs::ServingLemmas::waited_on))]
 pub fn read_header<R: Source, W: Wait + Clock>(
     rt: &W,
@@ -50,7 +50,7 @@ pub fn read_header<R: Source, W: Wait + Clock>(
     unreachable!()
 }
 
-/// Which channel begins so: the second one with the header of AsyncInitialize, any other is the first one.
+/// The second channel, where they begin with the header of AsyncInitialize; else the first one.
 pub fn channel_of(bytes: &[u8]) -> Channel
     ensures { result ≡ channel_by_header bytes.now }
 {
@@ -65,8 +65,8 @@ pub fn channel_of(bytes: &[u8]) -> Channel
     }
 }
 
-/// A source whose first bytes were read ahead, and come again. Where a read after them had failed, so does the one that
-/// follows them. Contracts see the bytes that come again, and the reader.
+/// A source that first gives again the bytes that were read ahead. Where a read after them had failed, so does the one
+/// that follows them. Contracts see the bytes that come again, and the reader.
 #[derive(Drop)]
 pub struct ReadAhead<R: Source + Drop> {
     header: Cursor<Vec<u8>>,

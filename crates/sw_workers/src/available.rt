@@ -34,7 +34,7 @@ pub struct AvailableRows {
 }
 
 impl AvailableRows {
-    /// Nobody has joined.
+    /// No session has joined.
     pub fn new(alloc: Global) -> Result<Self, AllocError> {
         let mut rows = Vec::new(alloc);
         for _ in 0..SESSIONS {
@@ -43,14 +43,14 @@ impl AvailableRows {
         Ok(AvailableRows { rows })
     }
 
-    /// The notes of a session's number, by which alone the row is told: so all that is noted of a session and asked of
-    /// it stands in one row.
+    /// The notes of a session's number. The number alone determines the row, so that all notes of a session are in one
+    /// row.
     fn row(&self, sid: Sid) -> Option<&Mutex<Available>> {
         let row: &Mutex<Available> = &self.rows[place_of(sid.number)?];
         Some(row)
     }
 
-    /// Follows who joins and who leaves, by an ask and its answer.
+    /// Follows a session that joins or leaves, by an ask and its answer.
     pub fn follow<W: Wait>(&self, rt: &W, seating: Seating, answer: &SessionAnswer) {
         let Some(sid) = who_moves(seating, answer) else {
             return;
@@ -60,7 +60,7 @@ impl AvailableRows {
         }
     }
 
-    /// Notes whether a message is available for the session. Of one that isn't joined now nothing is noted.
+    /// Notes whether a message is available for the session, if it is joined now.
     pub fn note<W: Wait>(&self, rt: &W, sid: Sid, mav: bool) {
         if let Some(row) = self.row(sid) {
             row.lock(rt).note(sid, mav);

@@ -20,7 +20,7 @@ impl Model for SeatState {
     ghost view = { λ _. spent };
 }
 
-/// The rule of the board: its word is the last pair of one history, of which each seat has seen a beginning.
+/// The rule of the board: its word is the last pair of one history; each seat has seen a beginning of that.
 pub struct BoardRule;
 
 impl TableRule<(), SeatState, (u8, u64)> for BoardRule {
@@ -40,7 +40,7 @@ impl Play<(), SeatState> for Reads {
     ghost then = { Sees };
 }
 
-/// A step that reads, after a join: it settles who of both had seen more.
+/// A step that reads, after a join: it settles which of the two had seen more.
 pub struct Compares;
 
 impl Play<(), SeatState> for Compares {
@@ -103,7 +103,7 @@ impl Split<SeatState> for Desks {
     ghost right = { new_desk };
 }
 
-/// A desk leaves its seat; and comes to the pass that publishes.
+/// A desk leaves its seat, and moves to the pass that publishes.
 pub struct Lends;
 
 impl Split<SeatState> for Lends {
@@ -122,7 +122,7 @@ impl Join<SeatState> for Lends {
     ghost spent = { spent };
 }
 
-/// A desk comes back to its seat.
+/// A desk returns to its seat.
 pub struct Returns;
 
 impl Join<SeatState> for Returns {
@@ -178,7 +178,7 @@ pub struct BlankBoard {
 }
 
 impl BlankBoard {
-    /// A board that tells this pair.
+    /// A board with this pair.
     pub fn new(alloc: Global, pair: (u8, u64)) -> Result<BlankBoard, AllocError>
         requires { pair.1 < 2 ^ 56 }
         ensures { IfOk result (λ board. board.table.shared.key ≡ pair) }

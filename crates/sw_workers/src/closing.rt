@@ -29,8 +29,8 @@ pub struct Closed<R: Relay, M: Meter> {
     pub cards: Vec<Option<Card<R, M>>>,
 }
 
-/// Ends a mainframe of which every desk is given back, where every relay was opened and no session has asked since.
-/// Else, where a desk is missing, or no memory is to be had, what was given is handed back, and nothing changed.
+/// Ends a mainframe, where the caller gives every desk back, every relay was opened and no session has asked since.
+/// Else, where a desk is missing, or there is no memory, it gives back what it was given, and changes nothing.
 pub fn close_down<H: Mainframe, R: Relay, M: Meter, G: Gate + Drop, W: Wait + Clock + Copy + Drop>(
     rt: &W,
     alloc: Global,
@@ -104,7 +104,10 @@ fn take_out<H: Mainframe, R: Relay, M: Meter>(
     held.has_history();
     match held.ask(part, Ask::Eject(slot)) {
         Answer::Ejected(card) => Some(card),
-        _ => None,
+        other => {
+            drop(other);
+            None
+        }
     }
 }
 

@@ -7,7 +7,7 @@ use std::net::TcpStream;
 use sw_session::{Sink, Source};
 
 /// A connection of one channel of a session: what it reads from, what it writes to, and a second way to the same
-/// client, by which a message that another thread left is written between two of its own.
+/// client. By that way it writes a message that another thread left between two of its own.
 pub trait Connection {
     ghost use Rattle.std.specs.Prelude.{◌≡◌, ℕ, List, Option, OnErr};
 
@@ -35,14 +35,14 @@ pub trait Connection {
         ensures pauses { Self.In.pauses result.0 ≡ pauses self }
         ensures output { Self.Out.contents result.1 ≡ output self };
 
-    /// Limits each read from now on to so many milliseconds. Where that can't be, it counts as a failed read.
+    /// Limits each read from now on to `ms` milliseconds. A limit that can't be set counts as a failed read.
     fn set_limit(reader: &mut Self::In, ms: u32) -> io::Result<()>
         ensures bytes { Self.In.remaining reader.new ≡ Self.In.remaining reader.old }
         ensures pauses { Self.In.pauses reader.new ≡ Self.In.pauses reader.old }
         ensures failed { OnErr result (Self.In.failed reader.old reader.new) };
 }
 
-/// A connection of a reader and two writers of one's own, whose reads have no limit.
+/// A connection of any reader and two writers. Its reads have no limit.
 #[derive(Drop)]
 pub struct Wired<I: Source + Drop, O: Sink + Drop, A: Sink + Drop> {
     pub reader: I,

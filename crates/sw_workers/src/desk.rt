@@ -40,9 +40,9 @@ pub struct SharedDesk<
     seen: u64,
     /// The number of the session whose synchronous channel this is.
     number: Option<u8>,
-    /// The limit of the wait for what is held, which goes on from wait to wait.
+    /// The limit of the wait for a held ask. It continues from wait to wait.
     limit: Option<Limit>,
-    /// The session that is served.
+    /// The session that the desk serves.
     pub(crate) serves: Option<Sid>,
 }
 
@@ -57,14 +57,14 @@ fn number_after(number: Option<u8>, seating: Seating, answer: &SessionAnswer) ->
     }
 }
 
-/// Whether a session is left.
+/// Whether the ask leaves a session.
 fn is_leave(ask: &SessionAsk) -> bool
     ensures { result ≡ is_leave ask.now }
 {
     matches!(ask, SessionAsk::Leave(_))
 }
 
-/// The session that a desk serves after an answer to an ask that leaves one, or doesn't.
+/// The session that a desk serves after an answer. `leaves`: the ask leaves a session.
 fn serving_after(serves: Option<Sid>, leaves: bool, answer: &SessionAnswer) -> Option<Sid>
     ensures { result ≡ serving_after serves leaves answer.now }
 {
@@ -75,11 +75,11 @@ fn serving_after(serves: Option<Sid>, leaves: bool, answer: &SessionAnswer) -> O
     }
 }
 
-/// How long a thread that waits goes on.
+/// How a thread's wait ends.
 enum Rest {
-    /// What was held may be asked again; so much of the limit is left.
+    /// The session may ask again. This much of the limit is left.
     Again(Option<Limit>),
-    /// It is over.
+    /// The wait is over.
     Over,
     /// The client has ended its connection.
     Deserted,
@@ -105,7 +105,7 @@ fn told_ms(limit: Option<Limit>) -> Option<u32>
     }
 }
 
-/// What is told to be left of a limit of so many milliseconds.
+/// What a wait reports to be left of a limit of `limit_ms` milliseconds.
 fn left_ms(limit_ms: Option<u32>, limit: Option<Limit>) -> Option<u32>
     ensures told { result ≡ told_left limit_ms limit }
     ensures left { LeavesOf limit_ms (Wake.Again result) }
@@ -117,7 +117,7 @@ fn left_ms(limit_ms: Option<u32>, limit: Option<Limit>) -> Option<u32>
     }
 }
 
-/// The limit of the wait for what is held, after an answer: it goes on while the ask is held.
+/// The limit of the wait for a held ask, after an answer: it continues while the mainframe holds the ask.
 fn limit_after(limit: Option<Limit>, answer: &SessionAnswer) -> Option<Limit>
     ensures { result ≡ limit_after limit answer.now }
 {
@@ -134,7 +134,7 @@ impl<H: Mainframe, R: Relay, M: Meter, G: Gate + Drop, W: Wait + Clock + Copy + 
     G,
     W,
 > {
-    /// One more desk, or none where there are 2^33, the end has begun, or no memory is to be had.
+    /// One more desk. None where there are 2^33, the end has begun, or there is no memory.
     pub fn open(rt: W, shared: &Arc<Shared<H, R, M, G>, Global>) -> Option<Self>
         ensures { IfSome result (λ desk. (desk.part.amount ≡ 0) × (desk.part.seat.mine ≡ [])) }
     {
@@ -155,14 +155,15 @@ impl<H: Mainframe, R: Relay, M: Meter, G: Gate + Drop, W: Wait + Clock + Copy + 
         })
     }
 
-    /// Ends the scan that runs and opens every relay, whoever has a lock: each card comes out of its slot and goes back.
+    /// Ends the scan that runs and opens every relay, whichever session has a lock: each card comes out of its slot and
+    /// goes back.
     pub fn open_all(&mut self)
         ensures { OpensAll H.first self.new.part }
     {
         self.seen = self.shared.open_all(&self.rt, &mut self.part);
     }
 
-    /// Carries a piece of work out, and sees to what that brings.
+    /// Carries a piece of work out, then sends or carries out what that brings.
     pub(crate) fn work_off(&mut self, piece: Work<M>)
         ensures { Works H.first none_own (Some (piece_seen piece)) self.old.part self.new.part }
     {
@@ -170,7 +171,7 @@ impl<H: Mainframe, R: Relay, M: Meter, G: Gate + Drop, W: Wait + Clock + Copy + 
         self.carry(next);
     }
 
-    /// Sends work, if there is any, or carries it out, and so on with what that brings.
+    /// Sends work, if there is any, or carries it out, then does the same with what that brings.
     #[inline(always)]
     pub(crate) fn carry(&mut self, work: Option<Work<M>>)
         ensures { SeesToWork H.first H.sent (work_seen work) self.old.part self.new.part }
@@ -181,7 +182,7 @@ impl<H: Mainframe, R: Relay, M: Meter, G: Gate + Drop, W: Wait + Clock + Copy + 
         }
     }
 
-    /// Sends a piece of work, or carries it out, and so on with what that brings.
+    /// Sends a piece of work, or carries it out, then does the same with what that brings.
     #[inline(never)]
     fn carry_piece(&mut self, piece: Work<M>)
         ensures { SeesToWork H.first H.sent (work_seen (Some piece)) self.old.part self.new.part }
@@ -200,7 +201,7 @@ impl<H: Mainframe, R: Relay, M: Meter, G: Gate + Drop, W: Wait + Clock + Copy + 
         unreachable!()
     }
 
-    /// Carries a piece of work out, and tells the mainframe, which gives what comes next.
+    /// Carries a piece of work out, and reports it to the mainframe, which gives the next piece.
     pub(crate) fn finish(&mut self, piece: Work<M>) -> Option<Work<M>>
         ensures { EndsPiece H.first (piece_seen piece) self.old.part (work_seen result) self.new.part }
     {
@@ -208,17 +209,20 @@ impl<H: Mainframe, R: Relay, M: Meter, G: Gate + Drop, W: Wait + Clock + Copy + 
         self.tell(ask)
     }
 
-    /// Tells the mainframe, which gives what comes next.
+    /// Reports to the mainframe, which gives the next piece.
     pub(crate) fn tell(&mut self, ask: Ask<R, M>) -> Option<Work<M>>
         ensures { Brings H.first (ask_seen ask) self.old.part (work_seen result) self.new.part }
     {
         match self.act(ask) {
             Answer::Taken(work) => work,
-            _ => None,
+            other => {
+                drop(other);
+                None
+            }
         }
     }
 
-    /// Asks the mainframe what no session asks.
+    /// Makes an ask that no session makes.
     fn act(&mut self, ask: Ask<R, M>) -> Answer<R, M>
         ensures { AsksOnce H.first (ask_seen ask) (answer_seen result) self.old.part self.new.part }
     {
@@ -228,7 +232,7 @@ impl<H: Mainframe, R: Relay, M: Meter, G: Gate + Drop, W: Wait + Clock + Copy + 
         answer
     }
 
-    /// Asks the mainframe what a session asks. The answer is left in `answer`, and what its scan awaits now in `work`.
+    /// Makes a session's ask. It leaves the answer in `answer`, and in `work` what the scan awaits now.
     #[inline(always)]
     fn act_session(
         &mut self,
@@ -248,8 +252,8 @@ impl<H: Mainframe, R: Relay, M: Meter, G: Gate + Drop, W: Wait + Clock + Copy + 
         self.leave_seen();
     }
 
-    /// The desk of a session's synchronous channel, which is the one that joined, leaves in the session's slot what it
-    /// has seen, until the session has left.
+    /// The desk that joined is that of the session's synchronous channel. It leaves what it has seen in the session's
+    /// slot, until the session has left.
     #[inline(always)]
     fn leave_seen(&mut self)
         ensures { self.new.part ≡ self.old.part }
@@ -259,7 +263,8 @@ impl<H: Mainframe, R: Relay, M: Meter, G: Gate + Drop, W: Wait + Clock + Copy + 
         }
     }
 
-    /// Waits for so many milliseconds at most, where there is a limit. A limit that is told as it was left goes on.
+    /// Waits, for `limit_ms` milliseconds at most where there is a limit. A limit that the caller gives as the last
+    /// wait left it continues.
     fn rest_for(&self, limit_ms: Option<u32>) -> Rest
         ensures { MayRest H.over H.deserted limit_ms result }
     {
@@ -276,8 +281,8 @@ impl<H: Mainframe, R: Relay, M: Meter, G: Gate + Drop, W: Wait + Clock + Copy + 
         }
     }
 
-    /// Waits until the mainframe's turn is another, the limit is over, or the client has ended its connection. The other
-    /// thread of the session sees that it waits.
+    /// Waits until the mainframe's turn is another, the limit is over, or the client has ended its connection. The
+    /// session's other thread sees that it waits.
     fn rest(&self, limit: Option<Limit>) -> Rest
         ensures over { limit ≡ None → MayRest H.over H.deserted None result }
         ensures gone { result ≡ Deserted → H.deserted }
@@ -310,7 +315,7 @@ impl<H: Mainframe, R: Relay, M: Meter, G: Gate + Drop, W: Wait + Clock + Copy + 
         unreachable!()
     }
 
-    /// Leaves the session that is served, where one is.
+    /// Leaves the session that the desk serves, if there is one.
     fn desert(&mut self)
         ensures { Deserts H.first (desk_seen self.old.part self.old.serves) (desk_seen self.new.part self.new.serves) }
     {
@@ -320,7 +325,7 @@ impl<H: Mainframe, R: Relay, M: Meter, G: Gate + Drop, W: Wait + Clock + Copy + 
         drop(self.ask(SessionAsk::Leave(sid)));
     }
 
-    /// Carries a piece of work out, and gives what is to be told of it. It holds no lock.
+    /// Carries a piece of work out, and gives the ask that reports it. It holds no lock.
     fn carried_out(&self, piece: Work<M>) -> Ask<R, M>
         ensures tells { TellsOfPiece (piece_seen piece) (ask_seen result) }
         ensures rested { IsRested H.rested (piece_seen piece) }

@@ -27,8 +27,8 @@ impl Ends {
         }
     }
 
-    /// A line of this session, with which it ends from now on. Where it has left, the server ends, or there is no
-    /// memory, the line ends at once. Once both stand, their writes wait as long as it takes.
+    /// Adds a line of this session, which ends with it from now on. The line ends at once where the session has left,
+    /// the server ends, or there is no memory. Once the session has both lines, their writes wait as long as it takes.
     pub fn enlist(&mut self, joined: u64, line: Line) {
         self.begin(joined);
         let is_current = self.joined == Some(joined) && !self.is_over && !self.is_closing;
@@ -55,7 +55,7 @@ impl Ends {
         self.lines.clear();
     }
 
-    /// Whether both connections of this session stand.
+    /// Whether this session has both connections.
     pub fn are_paired(&self, joined: u64) -> bool {
         self.joined == Some(joined) && self.lines.len() >= 2
     }
@@ -81,8 +81,8 @@ impl Ends {
         }
     }
 
-    /// The server ends, and with it each line that comes from now on. Nothing more is read from the first line, whose
-    /// end is the session's; or all lines end at once.
+    /// The server ends, and ends each line that comes from now on. It reads nothing more from the first line, with
+    /// which the session ends; or it ends all lines at once.
     pub fn end_all(&mut self, is_at_once: bool) {
         self.is_closing = true;
         if is_at_once {

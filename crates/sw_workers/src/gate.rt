@@ -1,4 +1,4 @@
-//! Gates: where a thread may be stopped before it goes on.
+//! Gates: where a thread may be stopped before it acts.
 
 use std::sync::Wait;
 
@@ -7,15 +7,15 @@ use std::sync::Wait;
 pub enum Point {
     /// To run a measurement.
     Job,
-    /// To tell the end of a pause.
+    /// To report the end of a pause.
     Pause,
-    /// To ask for a session.
+    /// To make a session's ask.
     Ask,
 }
 
-/// What a thread passes before it goes on. No lock is held there.
+/// What a thread passes before a `Point`. It holds no lock there.
 pub trait Gate {
-    /// Returns when the thread may go on.
+    /// Returns when the thread may continue.
     fn pass<W: Wait>(&self, rt: &W, point: Point);
 }
 

@@ -1,5 +1,4 @@
-//! What stands behind the lock: the mainframe and its history, how its events are counted, and the notes of the last
-//! ones.
+//! What is behind the lock: the mainframe and its history, the count of its events, and the notes of the last ones.
 
 ghost use Rattle.std.specs.Prelude.{◌≡◌, ◌==◌, ◌+◌, ◌<◌, ◌&&◌, ◌↔◌, ℕ, [], ◌∷◌, ◌++◌, not, IfOk, IfSome, IfNone, None, Some, true};
 ghost use mathlib.Core.List.{IsPrefix};
@@ -38,7 +37,8 @@ use std::sync::ledger::{Book, Ledger, Share};
 use sw_card::{Meter, Relay};
 use sw_core::{Answer, Ask, SessionAnswer, SessionAsk, Sid, Work, runs_go_on};
 
-/// Which mainframe it is, to those who wait for it: that its end has begun is known only once nobody has to wait.
+/// Which mainframe it is, to the threads that wait for it. Only `end` proves that its end has begun; after that no
+/// thread has to wait.
 pub trait Lasting {
     /// The end has begun.
     ghost over: { Type 0 };
@@ -63,13 +63,13 @@ impl Mainframe for Brand {}
 /// The most desks.
 const MOST_DESKS: u64 = 1 << 33;
 
-/// How many events are told of.
+/// How many events have a note.
 const MOST_NOTES: usize = 64;
 
-/// What stands behind the lock. Contracts see the mainframe's panel, how many desks there are, and all events.
+/// What is behind the lock. Contracts see the mainframe's panel, how many desks there are, and all events.
 ///
-/// Whenever it is seen, the number of events is the opening one and the sum of all shares, and the notes are those of
-/// the last 64 entries of the history.
+/// Whenever it is seen, the number of events is the opening number plus the sum of all shares, and the notes are those
+/// of the last 64 entries of the history.
 #[derive(Drop)]
 pub struct Held<H: Mainframe, R: Relay, M: Meter> {
     alloc: Global,
@@ -80,7 +80,7 @@ pub struct Held<H: Mainframe, R: Relay, M: Meter> {
     /// How many desks there are.
     given: u64,
     notes: HeapCircularBuffer<Note>,
-    /// Changes where something happened that may admit what was held, and where the end begins.
+    /// Changes where something happened that may admit a held ask, and where no more events can be numbered.
     turn: u64,
     closing: bool,
     /// Every relay was opened and no scan runs, and no session has asked since.
@@ -155,7 +155,7 @@ impl<H: Mainframe> DeskPart<H> {
         slots.poll(rt, number, board, &mut self.seat)
     }
 
-    /// Its share, where nobody asks by it any more.
+    /// The share of a desk that makes no more asks.
     pub fn into_share(self) -> Share<H>
         ensures { (result.parts ≡ 1) × (result.amount ≡ self.amount) }
     {
@@ -186,7 +186,7 @@ fn count<H: Mainframe>(
     }
 }
 
-/// Whether what was at rest is so behind such an ask: no session asks it.
+/// Whether the mainframe is still at rest after this ask: a session's ask ends the rest.
 fn rests_on<R: Relay, M: Meter>(at_rest: bool, ask: &Ask<R, M>) -> bool
     ensures { result ≡ at_rest && is_unasked (ask_seen ask.now) }
 {
@@ -206,7 +206,13 @@ impl<H: Mainframe, R: Relay, M: Meter> Held<H, R, M> {
         requires parts { (spare.parts ≡ all_parts) × (spare.amount ≡ 0) × (H.parts ≡ all_parts) }
         ensures { IfOk result (λ held. held ≡ record { panel = core.panel; given = 0; history = []; turn = 0 }) }
     {
-        let notes = HeapCircularBuffer::with_capacity(alloc, MOST_NOTES)?;
+        let notes = match HeapCircularBuffer::with_capacity(alloc, MOST_NOTES) {
+            Ok(notes) => notes,
+            Err(fault) => {
+                drop(core);
+                return Err(fault);
+            }
+        };
         Ok(Held {
             alloc,
             core,
@@ -256,7 +262,7 @@ impl<H: Mainframe, R: Relay, M: Meter> Held<H, R, M> {
         }
     }
 
-    /// The share that no desk has, once, where there are so many desks.
+    /// Takes the share that no desk has, where there are `desks` desks. It can be taken once.
     pub fn take_spare(&mut self, desks: u64) -> Option<Share<H>>
         ensures same { self.new ≡ self.old }
         ensures some { IfSome result (λ s. (s.parts + desks ≡ all_parts) × (s.amount ≡ 0)) }
@@ -267,7 +273,7 @@ impl<H: Mainframe, R: Relay, M: Meter> Held<H, R, M> {
         self.spare.take()
     }
 
-    /// The number of events, to whom has every part: the opening one and all that was counted.
+    /// The number of events, for the caller that has every part: the opening number plus all that the shares counted.
     pub fn number(&mut self, all: &mut Share<H>) -> u64
         requires { all.old.parts ≡ all_parts }
         ensures same { self.new ≡ self.old }
@@ -278,8 +284,7 @@ impl<H: Mainframe, R: Relay, M: Meter> Held<H, R, M> {
         self.core.events()
     }
 
-    /// What is so whenever it is seen: its history leads from the opening panel, which was fresh, to this one, which is
-    /// reached.
+    /// Whenever it is seen, its history leads from the opening panel, which was fresh, to this one, which is reached.
     pub fn has_history(&self)
         ensures leads { IsHistory H.first self.now.history self.now.panel }
         ensures reached { IsReached self.now.panel }
@@ -288,21 +293,21 @@ impl<H: Mainframe, R: Relay, M: Meter> Held<H, R, M> {
         self.core.has_history();
     }
 
-    /// Whether `*OPC?` of the session would be held now: a scan runs, or others have a lock.
+    /// Whether the mainframe would hold the session's `*OPC?` now: a scan runs, or others have a lock.
     pub fn awaits_end(&self, sid: Sid) -> bool
         ensures { (result ≡ true) ↔ AwaitsEnd self.now.panel sid }
     {
         self.core.awaits_end(sid)
     }
 
-    /// What changes where something happened that may admit what was held.
+    /// The turn, which changes where something happened that may admit a held ask.
     pub fn turn(&self) -> u64
         ensures { result ≡ self.now.turn }
     {
         self.turn
     }
 
-    /// Notes whether what was held may go on.
+    /// Notes whether a held ask may proceed.
     pub(crate) fn take_turn(&mut self, may_go_on: bool)
         ensures { self.new ≡ record self.old {
           turn = turn_after self.old.turn may_go_on self.old.panel.events;
@@ -321,8 +326,8 @@ impl<H: Mainframe, R: Relay, M: Meter> Held<H, R, M> {
         }
     }
 
-    /// Asks the mainframe, and takes another turn where what was held may go on: where the turn stays, all that was
-    /// held is held still.
+    /// Makes an ask, and takes another turn where a held ask may proceed. Where the turn stays, the mainframe still
+    /// holds all that it held.
     #[inline(always)]
     pub fn act(&mut self, part: &mut DeskPart<H>, ask: Ask<R, M>) -> Answer<R, M>
         ensures once { AsksOnce H.first (ask_seen ask) (answer_seen result) part.old part.new }
@@ -337,8 +342,7 @@ impl<H: Mainframe, R: Relay, M: Meter> Held<H, R, M> {
         answer
     }
 
-    /// Asks the mainframe what a session asks, as `act` does. The answer is left in `answer`, and what its scan awaits
-    /// now in `work`.
+    /// Makes a session's ask, as `act` does. It leaves the answer in `answer`, and in `work` what the scan awaits now.
     #[inline(always)]
     pub fn act_session(
         &mut self,
@@ -360,7 +364,7 @@ impl<H: Mainframe, R: Relay, M: Meter> Held<H, R, M> {
         self.take_turn(session_wakes(concern, ran, runs, answer));
     }
 
-    /// Nobody has to wait any more.
+    /// From now on no thread has to wait.
     pub fn close(&mut self)
         ensures { self.new ≡ self.old }
     {
@@ -397,8 +401,8 @@ impl<H: Mainframe, R: Relay, M: Meter> Held<H, R, M> {
         self.notes.to_vec(self.alloc)
     }
 
-    /// Asks the mainframe. An event is published, stands in the history as one more entry of the desk, and is noted; if
-    /// it is numbered it counts in the desk's share, once. The desk's seat has then seen the whole history.
+    /// Makes an ask. An event is published, becomes one more entry of the desk in the history, and gets a note. A
+    /// numbered event counts in the desk's share, once. The desk's seat has then seen the whole history.
     #[tactic(auto, using(crate::proofs::CountedLemmas::step_counted))]
     #[inline(always)]
     pub fn ask(&mut self, part: &mut DeskPart<H>, ask: Ask<R, M>) -> Answer<R, M>
@@ -438,8 +442,7 @@ impl<H: Mainframe, R: Relay, M: Meter> Held<H, R, M> {
         answer
     }
 
-    /// Asks the mainframe what a session asks, as `ask` does. The answer is left in `answer`, and what its scan awaits
-    /// now in `work`.
+    /// Makes a session's ask, as `ask` does. It leaves the answer in `answer`, and in `work` what the scan awaits now.
     #[tactic(auto, using(crate::proofs::CountedLemmas::step_counted))]
     #[inline(always)]
     pub fn ask_session(

@@ -21,7 +21,7 @@ fn option_value(number: u8) -> [u8; 16] {
     value
 }
 
-/// Lets the system notice a client that is gone without a word. Where it can't, nothing comes of it.
+/// Lets the system notice a client that is gone without a word. It ignores a failure of that.
 pub fn keep_alive(fd: RawFd) {
     unsafe {
         let _ = setsockopt(fd, SOL_SOCKET, SO_KEEPALIVE, &option_value(1), 4);

@@ -24,12 +24,13 @@ pub enum AfterEnd {
     Leaves,
     /// It looks again.
     Awaits,
-    /// It lets the first connection end behind what has come there, and looks again.
+    /// It lets the first connection end after what has come there, and looks again.
     Stops,
 }
 
-/// What it does where the first connection still stands: has its client ended that one too, for how long has a write on
-/// it found no room, and for how long has the second one been at its end, in milliseconds?
+/// What it does where the first connection is still open. `has_ended`: its client has ended that one too; `unread_ms`:
+/// for how long a write on it has found no room; `waited_ms`: for how long the second one has been at its end, in
+/// milliseconds.
 fn after_end(has_ended: bool, unread_ms: u64, waited_ms: u64) -> AfterEnd
     ensures { result ≡ after_end has_ended unread_ms waited_ms }
 {
@@ -42,7 +43,7 @@ fn after_end(has_ended: bool, unread_ms: u64, waited_ms: u64) -> AfterEnd
     }
 }
 
-/// Waits at the end of a second connection until the session has left, or is to be left: what had come on its first
+/// Waits at the end of a second connection until the session has left, or is to be left. What had come on its first
 /// connection is served before that.
 pub fn await_left<W: Wait + Clock>(rt: &W, place: &Place) {
     let mut waited_ms = 0_u64;

@@ -1,34 +1,33 @@
 //! The mainframe behind one lock, and the threads that share it.
 //!
-//! What stands behind the lock is `Held`: the mainframe, the history of its events, how they are counted, and the notes
-//! of the last 64. The crate's contract is that of `Held::ask`: the core's answer and panel exactly, by `Step`; one
-//! more entry of the desk in the history where that was an event (`AsksInHistory`), else none; one more in its share
-//! where the event has a number; and its note. `Held::ask_session` does so for a session's ask, and leaves the answer
-//! where the caller looks. The history leads from the opening panel to the present one, event by event; and the
-//! mainframe opened fresh, so the history is a run of the core, of which every law over runs holds
-//! (`every_history_is_a_run`). Whenever it is seen, the number of events is the opening one and the sum of all shares
-//! (`Held::number`).
+//! `Held` is behind the lock: the mainframe, the history of its events, their count, and the notes of the last 64. The
+//! crate's contract is that of `Held::ask`: the core's answer and panel exactly, by `Step`; one more entry of the desk
+//! in the history where that was an event (`AsksInHistory`), else none; one more in its share where the event has a
+//! number; and its note. `Held::ask_session` does the same for a session's ask, and leaves the answer where the caller
+//! looks. The history leads from the opening panel to the present one, event by event. The mainframe opened fresh, so
+//! the history is a run of the core, and every law over runs holds of it (`every_history_is_a_run`). Whenever it is
+//! seen, the number of events is the opening number plus the sum of all shares (`Held::number`).
 //!
-//! The status board is one word that tells the pair at the end of that history: status byte and number of service
-//! requests. A `StatusSeat` reads it without a lock (`StatusSeat::read`), and has seen a beginning of the history.
+//! The status board is one word, the pair at the end of that history: status byte and number of service requests. A
+//! `StatusSeat` reads it without a lock (`StatusSeat::read`), and has seen a beginning of the history.
 //!
-//! A `SharedDesk` is the desk of one thread. What it knows goes on by `DeskPasses`: each ask stands with its answer
-//! in one history of all desks, which has the desk's own events, each once, in their order, and no others of it; a
-//! status that it reads is that at some place of the history, not before any that it had seen. Its share counts the
-//! event of each ask, and those of the work that it carried out because it couldn't be sent; none of its work is
-//! dropped, and a pause that it carries out is waited out (`SeesToWork`). Which session it serves follows from its own
-//! asks; a wait leaves that session, and no other, only where its client was found gone (`Rests`). What is held of a
-//! session's asks is held on after any ask that takes no other turn (`Held::act`), by which those who wait are woken.
-//! Workers tell only of work that they received, and of what that brings (`Works`). They give their desks back when
-//! they end, and `close_down`, which is handed every desk, tells the number of events and gives the cards by slot, each
-//! as it stood there at the end of the history, but with nothing closed.
+//! A `SharedDesk` is the desk of one thread. `DeskPasses` says how what it knows changes. Each ask and its answer have
+//! a place in one history of all desks, which has the desk's own events, each once, in their order, and no others of
+//! that desk. A status that the desk reads is the status at some place of the history, not before any that it had seen.
+//! Its share counts the event of each ask, and the events of the work that it carried out because it couldn't send it.
+//! It drops none of its work, and waits out each pause that it carries out (`SeesToWork`). Which session it serves
+//! follows from its own asks. A wait leaves that session, and no other, only where it found the client gone (`Rests`).
+//! The mainframe still holds a session's ask after any other ask that leaves the turn as it is (`Held::act`); another
+//! turn wakes the threads that wait. Workers report only work that they received, and what that brings (`Works`). They
+//! give their desks back when they end. `close_down` takes every desk, and gives the number of events and the cards by
+//! slot, each as it was there at the end of the history, but with nothing closed.
 //!
-//! `run_session` serves one connection of a HiSLIP session by such a desk, as the channel that its first header tells:
-//! what is asked and written for what is read is what `serve_sync` and `serve_async` promise (`RunsSession`). What the
-//! first channel's thread says on the second one waits in the session's slot, under a lock of its own, until the other
-//! thread writes it; the next session of that number never finds it (`Waiting::open`).
+//! `run_session` serves one connection of a HiSLIP session by such a desk, as the channel that its first header names.
+//! `serve_sync` and `serve_async` promise what it asks and writes for what it reads (`RunsSession`). What the first
+//! channel's thread says on the second one waits in the session's slot, under a lock of its own, until the other thread
+//! writes it. The next session of that number never finds it (`Waiting::open`).
 //!
-//! Nothing is promised of when a thread goes on, nor that one does, nor of how late a status is that is read.
+//! No contract says when or whether a thread continues, nor how late a status is that a seat reads.
 #![tactic(auto)]
 
 mod ahead;

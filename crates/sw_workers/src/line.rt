@@ -66,7 +66,7 @@ impl Line {
         })
     }
 
-    /// Limits each read from now on to so many milliseconds.
+    /// Limits each read from now on to `ms` milliseconds.
     pub fn set_limit(&self, ms: u32) -> io::Result<()> {
         self.wire
             .stream
@@ -89,7 +89,7 @@ impl Line {
         self.wire.is_over.load(Ordering::SeqCst) || self.has(POLLRDHUP)
     }
 
-    /// Whether the system tells one of these events of the connection, or its end.
+    /// Whether the system reports one of these events of the connection, or its end.
     fn has(&self, events: i16) -> bool {
         let mut looks = [pollfd {
             fd: self.wire.stream.as_raw_fd(),
@@ -119,24 +119,24 @@ impl Line {
         self.wire.doing.store(doing as u8, Ordering::SeqCst);
     }
 
-    /// Reads nothing more, whatever has come: a thread that reads goes on. Answers are still written.
+    /// Reads nothing more, not even what has come: a thread's read ends. Answers are still written.
     pub fn finish(&self) {
         self.wire.is_over.store(true, Ordering::SeqCst);
         let _ = self.wire.stream.shutdown(Shutdown::Read);
     }
 
-    /// Reads no more than what has come: a thread that waits for more comes to the end.
+    /// Reads no more than what has come: a thread that waits for more reads the end.
     pub fn stop_reading(&self) {
         let _ = self.wire.stream.shutdown(Shutdown::Read);
     }
 
-    /// Ends the connection: a thread that reads from it or writes to it goes on, and what was written is sent.
+    /// Ends the connection: a thread's read or write ends, and the system sends what was written.
     pub fn close(&self) {
         let _ = self.wire.stream.shutdown(Shutdown::Both);
     }
 }
 
-/// Which mainframe it is, to the lines of its clients: that a client has gone is known only from the look that found it.
+/// Which mainframe it is, to the lines of its clients. Only the look that finds a client gone proves that it has gone.
 pub trait Hearing {
     ghost use Rattle.std.specs.Prelude.{◌≡◌, true};
 

@@ -14,7 +14,7 @@ pub enum AskKind {
     Join,
     /// To be the second channel of a session.
     Attach,
-    /// Whether the second channel stands.
+    /// Whether the session has its second channel.
     Attached,
     /// To be none of the sessions any more.
     Leave,
@@ -30,7 +30,7 @@ pub enum AskKind {
     Lock,
     /// To free a lock.
     Release,
-    /// Who holds locks.
+    /// Whether a session holds the exclusive lock, and how many hold a lock.
     LockInfo,
     /// A command.
     Unit,
@@ -44,7 +44,7 @@ pub enum AskKind {
     Start,
     /// To take a card in.
     Install,
-    /// To hand a card out.
+    /// To give a card out.
     Eject,
     /// An external trigger.
     External,

@@ -1,4 +1,4 @@
-//! What opens every relay, whoever has a lock.
+//! What opens every relay, whichever session has a lock.
 
 ghost use Rattle.std.specs.Prelude.{◌≡◌, ◌≤◌};
 ghost use Rattle.sw_base.specs.Limits.{most_slots};

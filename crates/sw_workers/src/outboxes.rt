@@ -18,20 +18,20 @@ use sw_base::SESSIONS;
 use sw_core::{SessionAnswer, Sid};
 use sw_session::Seating;
 
-/// How many bytes wait at most for a session's other thread; one whose client doesn't read them is left.
+/// How many bytes wait at most for a session's other thread. A session with a client that doesn't read them is left.
 const SIDE_BYTES: usize = 65_536;
 
 /// Why bytes are not left to a session's other thread.
 #[derive(Clone, Copy, Debug, PartialEq, Eq)]
 pub enum Refused {
-    /// They are too many beside those that wait.
+    /// With those that wait they are too many.
     Full,
     /// There is no memory for them.
     NoMemory,
 }
 
-/// Which mainframe it is, to what its sessions' threads leave to each other: that bytes were refused is known only from
-/// the call here that was to leave them.
+/// Which mainframe it is, to what its sessions' threads leave to each other. Only the call here that was to leave bytes
+/// proves that they were refused.
 pub trait Outbox {
     ghost use Rattle.std.specs.Prelude.{OnErr};
     ghost use Rattle.sw_workers.specs.Outboxes.{Leaves};
@@ -57,7 +57,7 @@ impl Outbox for Brand {
     }
 }
 
-/// The bytes that wait in a slot, and whose they are.
+/// The bytes that wait in a slot, and their session.
 #[derive(Drop)]
 pub struct Waiting {
     /// The session, by the number of events after its Join.
@@ -98,8 +98,8 @@ impl Waiting {
         self.bytes.clear();
     }
 
-    /// Appends what is left to a session, all or none: refused is what would be more than `SIDE_BYTES` with what waits,
-    /// and what finds no memory where the room has to grow. Nothing comes of it where the slot isn't that session's.
+    /// Appends what is left to a session, all or none. It refuses what would be more than `SIDE_BYTES` with what waits,
+    /// and what finds no memory where the room has to grow. Where the slot isn't that session's, it drops the bytes.
     pub fn append(&mut self, joined: u64, bytes: &[u8]) -> Result<(), Refused>
         ensures { Leaves self.old joined bytes.now result self.new }
     {
@@ -128,7 +128,7 @@ impl Waiting {
     }
 }
 
-/// What the threads of the session that has a number leave to each other, and the lines that end with it.
+/// What the threads of the session with a number leave to each other, and the lines that end with it.
 #[derive(Drop)]
 struct Slot {
     waiting: Mutex<Waiting>,
@@ -163,7 +163,7 @@ impl Outboxes {
         })
     }
 
-    /// What it takes memory from.
+    /// The allocator of its memory.
     pub fn alloc(&self) -> Global {
         self.alloc
     }
@@ -173,7 +173,7 @@ impl Outboxes {
         Some(slot)
     }
 
-    /// Empties the slot of a session's number for it, unless it has it already, or a later one does.
+    /// Empties the slot of a session's number for that session, unless this session or a later one has it already.
     pub fn open<W: Wait>(&self, rt: &W, sid: Sid) {
         if let Some(slot) = self.slot(sid) {
             slot.waiting.lock(rt).open(sid.joined);
@@ -201,14 +201,14 @@ impl Outboxes {
             .take(self.alloc, sid.joined)
     }
 
-    /// A line of the session, which ends with it.
+    /// Adds a line of the session, which ends with it.
     pub fn enlist<W: Wait>(&self, rt: &W, sid: Sid, line: Line) {
         if let Some(slot) = self.slot(sid) {
             slot.ends.lock(rt).enlist(sid.joined, line);
         }
     }
 
-    /// Whether both connections of the session stand.
+    /// Whether the session has both connections.
     pub fn are_paired<W: Wait>(&self, rt: &W, sid: Sid) -> bool {
         match self.slot(sid) {
             Some(slot) => slot.ends.lock(rt).are_paired(sid.joined),
@@ -228,8 +228,8 @@ impl Outboxes {
         }
     }
 
-    /// The server ends: no connection is served that comes from now on, and nothing more is read from those that are,
-    /// or they end at once.
+    /// The server ends: it serves no connection that comes from now on, and reads nothing more from those that it
+    /// serves, or ends them at once.
     pub fn end_all<W: Wait>(&self, rt: &W, is_at_once: bool) {
         self.porch.close();
         for slot in self.rows.iter() {
@@ -238,14 +238,14 @@ impl Outboxes {
     }
 }
 
-/// What the thread of a desk serves: a line, where there is one, and the session that it turned out to be.
+/// What the thread of a desk serves: a line, where there is one, and its session, once that is known.
 #[derive(Drop)]
 struct Served {
     line: Option<Line>,
     session: Option<Sid>,
     /// When it began, where the clock can be read.
     since: Option<Instant>,
-    /// It is one of those that stand without a session.
+    /// The porch counts it among the connections without a session.
     is_standing: bool,
 }
 
@@ -274,7 +274,8 @@ impl Place {
         }
     }
 
-    /// This line is served from now on, and no session yet. It is not where as many stand without a session as may.
+    /// This line is served from now on, and no session yet. It gives false, and serves nothing, where the porch admits
+    /// no connection.
     pub fn begin<W: Wait + Clock>(&self, rt: &W, line: Option<Line>) -> bool {
         if !self.outboxes.porch.enter(rt) {
             return false;
@@ -295,7 +296,7 @@ impl Place {
         *self.served.lock(rt) = Served::NOTHING;
     }
 
-    /// It doesn't stand without a session any more.
+    /// The porch no longer counts it.
     fn settle<W: Wait>(&self, rt: &W) {
         let stood = mem::replace(&mut self.served.lock(rt).is_standing, false);
         if stood {
@@ -310,15 +311,15 @@ impl Place {
         }
     }
 
-    /// Ends the line: reads come to its end.
+    /// Ends the line: reads find its end.
     fn end_line<W: Wait>(&self, rt: &W) {
         if let Some(line) = self.line(rt) {
             line.close();
         }
     }
 
-    /// Ends the line where it has stood for too long, or the server ends, and tells whether its session has both
-    /// connections. `is_heard` tells whether its first header is whole.
+    /// Ends the line where it has been open for too long, or the server ends, and gives whether its session has both
+    /// connections. `is_heard`: its first header is whole.
     pub fn end_overdue<W: Wait + Clock>(&self, rt: &W, is_heard: bool) -> bool {
         let is_paired = match self.session(rt) {
             Some(sid) => self.outboxes.are_paired(rt, sid),
@@ -339,8 +340,8 @@ impl Place {
         }
     }
 
-    /// Follows an ask and its answer: a session that was joined or attached to is served from now on, and with one that
-    /// has left all its lines end.
+    /// Follows an ask and its answer: a session that the ask joined or attached to is served from now on, and all lines
+    /// of a session that has left end.
     pub fn follow<W: Wait>(&self, rt: &W, seating: Seating, answer: &SessionAnswer) {
         if let SessionAnswer::Joined(sid) = answer {
             self.learn(rt, *sid);

@@ -8,10 +8,10 @@ ghost use Rattle.sw_workers.specs.Pauses.{IsPause, is_earlier, is_latest, with_p
 use std::time::{Clock, Duration, Instant};
 use sw_cage::Ticket;
 
-/// A pause to be waited out: what its end is told under, how long it is, when it began and when it is over.
+/// A pause to wait out: the ticket that its end is reported under, its length, its begin and its end.
 #[derive(Clone, Copy, Debug)]
 pub struct Pause {
-    /// What its end is told under.
+    /// The ticket that its end is reported under.
     pub ticket: Ticket,
     /// How long it is, in microseconds.
     pub micros: u64,
@@ -22,7 +22,8 @@ pub struct Pause {
 }
 
 impl Pause {
-    /// A pause of so many microseconds that begins now. None where the clock can't be read, or doesn't go so far.
+    /// A pause of `micros` microseconds that begins now. None where the clock can't be read, or doesn't reach the
+    /// pause's end.
     pub fn begun<C: Clock>(rt: &C, ticket: Ticket, micros: u64) -> Option<Pause>
         ensures { IfSome result (λ pause. IsPause pause × (pause.ticket ≡ ticket) × (pause.micros ≡ micros)) }
     {
@@ -37,7 +38,7 @@ impl Pause {
     }
 }
 
-/// When a pause of so many microseconds is over that begins at this instant. None where the clock doesn't go so far.
+/// When a pause of `micros` microseconds is over that begins at this instant. None where the clock doesn't reach that.
 fn end_after(begin: Instant, micros: u64) -> Option<Instant>
     ensures some { IfSome result (λ end. instant_nanos end ≡ instant_nanos begin + micros * 1000) }
     ensures none { IfNone result (FitsClock (instant_nanos begin + micros * 1000) → ⊥) }
@@ -63,7 +64,7 @@ pub enum Next {
     Over,
 }
 
-/// The latest pause that came, and the one that stands: the latest, unless it is over.
+/// The ticket of the latest pause that came, and the current pause: the latest, until it is over.
 #[derive(Clone, Copy, Debug)]
 pub struct Standing {
     latest: Option<Ticket>,
@@ -81,15 +82,15 @@ impl Standing {
         }
     }
 
-    /// The pause that stands, if one does.
+    /// The current pause, if there is one.
     pub fn pause(&self) -> Option<Pause>
         ensures { result ≡ self.now.stands }
     {
         self.stands
     }
 
-    /// After what came next: a pause that came stands, unless a later one had come, and one that stood is stale; and
-    /// one that is over stands no more.
+    /// After what came next. A pause that came is current, unless a later one had come; the one before it is stale. A
+    /// pause that is over is no longer current.
     pub fn after(self, next: Next) -> Standing
         ensures { result ≡ after_next self next }
     {
@@ -113,7 +114,7 @@ impl Standing {
         }
     }
 
-    /// The pause that stood is over.
+    /// The current pause is over.
     fn with_none(self) -> Standing
         ensures { result ≡ with_none self }
     {

@@ -9,7 +9,7 @@ use std::sync::{Mutex, Wait};
 /// How many connections may be without a session; a further one is closed at once.
 const MOST_STANDING: u32 = 64;
 
-/// How many there are with one more. None where there is no room for it.
+/// The count with one more. None where there is no room for it.
 fn one_more(standing: u32) -> Option<u32>
     ensures { result ≡ one_more standing }
 {
@@ -28,7 +28,7 @@ pub struct Porch {
 }
 
 impl Porch {
-    /// One that counts no connection.
+    /// A porch that counts no connection.
     pub fn new() -> Self {
         Porch {
             standing: Mutex::new(0),
@@ -36,7 +36,7 @@ impl Porch {
         }
     }
 
-    /// From now on it admits none, and those that it counts are to end.
+    /// From now on it admits no connection, and those that it counts are to end.
     pub fn close(&self) {
         self.is_closed.store(true, Ordering::SeqCst);
     }

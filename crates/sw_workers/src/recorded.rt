@@ -1,4 +1,5 @@
-//! A mainframe whose events stand, one after another, in the history that the status board tells the end of.
+//! A mainframe with its history, which has an entry for each event, one after another; the status board shows the end
+//! of it.
 
 ghost use Rattle.std.specs.Prelude.{◌≡◌, ◌<◌, ◌^◌, ◌↔◌, ℕ, [], ◌∷◌, ◌++◌, None, Some, true};
 ghost use mathlib.Core.List.{IsPrefix};
@@ -82,8 +83,8 @@ impl<B: Recording, R: Relay, M: Meter> Recorded<B, R, M> {
         self.pass.new_desk(&self.board)
     }
 
-    /// Asks the mainframe. An event is published and stands in the history as one more entry of the desk; what is no
-    /// event changes nothing. The desk has then seen the whole history.
+    /// Makes an ask. An event is published and becomes one more entry of the desk in the history; what is no event
+    /// changes nothing. The desk has then seen the whole history.
     #[inline(always)]
     pub fn ask(&mut self, alloc: Global, desk: &mut StatusSeat<B>, ask: Ask<R, M>) -> Answer<R, M>
         requires desk { (d : ℕ) × (desk.old.desk ≡ Some d) }
@@ -116,8 +117,7 @@ impl<B: Recording, R: Relay, M: Meter> Recorded<B, R, M> {
         answer
     }
 
-    /// Asks the mainframe what a session asks, as `ask` does. The answer is left in `answer`, and what its scan awaits
-    /// now in `work`.
+    /// Makes a session's ask, as `ask` does. It leaves the answer in `answer`, and in `work` what the scan awaits now.
     #[inline(always)]
     pub fn ask_session(
         &mut self,
@@ -156,7 +156,7 @@ impl<B: Recording, R: Relay, M: Meter> Recorded<B, R, M> {
         tell_answered(pass, board, desk, &event);
     }
 
-    /// Whether `*OPC?` of the session would be held now: a scan runs, or others have a lock.
+    /// Whether the mainframe would hold the session's `*OPC?` now: a scan runs, or others have a lock.
     #[tactic(auto, using(crate::proofs::HoldsLemmas::awaits_known))]
     pub fn awaits_end(&self, sid: Sid) -> bool
         ensures { (result ≡ true) ↔ AwaitsEnd self.now.panel sid }
@@ -165,8 +165,7 @@ impl<B: Recording, R: Relay, M: Meter> Recorded<B, R, M> {
         self.core.holds(&query)
     }
 
-    /// What is so whenever it is seen: its history leads from the opening panel, which was fresh, to this one, which is
-    /// reached.
+    /// Whenever it is seen, its history leads from the opening panel, which was fresh, to this one, which is reached.
     pub fn has_history(&self)
         ensures leads { IsHistory B.first self.now.history self.now.panel }
         ensures reached { IsReached self.now.panel }
@@ -189,7 +188,7 @@ impl<B: Recording, R: Relay, M: Meter> Recorded<B, R, M> {
         self.core.events()
     }
 
-    /// The mainframe, of which nobody asks any more.
+    /// The mainframe, once no desk asks it any more.
     pub fn into_core(self) -> Core<R, M>
         ensures { result ≡ self.panel }
     {

@@ -1,4 +1,4 @@
-//! Seats at the status board: those that read, and the pass that publishes.
+//! Seats at the status board: seats to read by, and the pass that publishes.
 
 ghost use Rattle.std.specs.Prelude.{◌≡◌, ◌⊎◌, ◌<◌, ◌^◌, ℕ, List, [], ◌∷◌, ◌++◌, true, false, Some, None};
 ghost use mathlib.Core.List.{IsPrefix};
@@ -68,7 +68,7 @@ impl<B: BoardName> StatusSeat<B> {
     }
 }
 
-/// The pass that publishes, for who holds the mainframe lock. Contracts see the whole history.
+/// The pass that publishes, for the thread that holds the mainframe lock. Contracts see the whole history.
 #[derive(Drop)]
 pub struct LockedPass<B: BoardName> {
     pass: RawSeat,
@@ -91,7 +91,7 @@ impl<B: BoardName> Model for LockedPass<B> {
         × (last_pair B.opening p.pass.me.0.seen ≡ pair_in p.word) };
 }
 
-/// The desk comes to the pass, which learns that the history begins with all that the desk had seen, and has all
+/// The desk moves to the pass, which learns that the history begins with all that the desk had seen, and has all
 /// entries of the desk.
 fn ride(on: &Steps, pass: &mut RawSeat, desk: &mut RawSeat)
     requires table { (pass.old.table_id ≡ on.now.table_id) × (desk.old.table_id ≡ on.now.table_id)
@@ -109,7 +109,7 @@ fn ride(on: &Steps, pass: &mut RawSeat, desk: &mut RawSeat)
     on.load::<Reads>(pass, 0);
 }
 
-/// The desk comes back to its seat, and has seen what the pass has.
+/// The desk returns to its seat, and has seen what the pass has.
 fn land(on: &Steps, pass: &mut RawSeat, desk: &mut RawSeat)
     requires table { (pass.old.table_id ≡ on.now.table_id) × (desk.old.table_id ≡ on.now.table_id)
         × (on.now.table_id.words ≡ 1) }

@@ -27,14 +27,14 @@ use sw_session::{
     Channel, Desk, ServeFault, Sink, Source, TURNS, Unread, Unwritten, serve_async, serve_sync,
 };
 
-/// How long a read lasts at most, in milliseconds: service requests are told then on a second channel, and a connection
-/// that has stood for too long ends.
+/// How long a read lasts at most, in milliseconds. After it a second channel sends service requests, and a connection
+/// that is open for too long ends.
 const LIMIT_MS: u32 = 100;
 
 /// How a connection was served.
 #[derive(Drop)]
 pub struct Ended<D: Drop, R: Source + Drop, O: Drop, A: Drop> {
-    /// The desk, whose session was left.
+    /// The desk, which has left its session.
     pub desk: D,
     /// What was not read.
     pub reader: ReadAhead<R>,
@@ -44,7 +44,8 @@ pub struct Ended<D: Drop, R: Source + Drop, O: Drop, A: Drop> {
     pub result: Result<(), ServeFault>,
 }
 
-/// The side writer of a session's first channel: what is said on the second one is left to the thread that serves that.
+/// The side writer of a session's first channel: it leaves what is said on the second one to the thread that serves
+/// that.
 #[derive(Drop)]
 struct SideWriter<'a, H: Mainframe, W: Wait + Drop> {
     place: &'a Place,
@@ -83,8 +84,8 @@ impl Sink for Nowhere {
     }
 }
 
-/// What a second channel reads from: before each read, what the first channel's thread left is written; and its end
-/// comes once what had come on the first connection was served.
+/// What a second channel reads from: before each read it writes what the first channel's thread left. Its end comes
+/// once what had come on the first connection is served.
 #[derive(Drop)]
 struct Forwarding<'a, R: Source + Drop, A: Sink + Drop, W: Wait + Drop> {
     reader: R,
@@ -116,7 +117,7 @@ impl<R: Source + Drop, A: Sink + Drop, W: Wait + Clock + Drop> Source for Forwar
     }
 }
 
-/// Serves a connection as the channel that its first header tells, for so many reads after that at most.
+/// Serves a connection as the channel that its first header names, for at most `turns` reads after that.
 pub fn run_session_for<
     H: Mainframe,
     R: Relay,
@@ -235,7 +236,7 @@ fn hear_header<C: Connection, W: Wait + Clock>(
     read_header(rt, place, reader, header)
 }
 
-/// Reads the first header, and serves the channel that it tells.
+/// Reads the first header, and serves the channel that it names.
 fn serve_parts<H: Mainframe, C: Connection, D: Desk + Drop, W: Wait + Clock + Copy + Drop>(
     rt: W,
     alloc: Global,

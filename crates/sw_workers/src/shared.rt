@@ -1,4 +1,4 @@
-//! The mainframe behind one lock, and what wakes those who wait for it.
+//! The mainframe behind one lock, and what wakes the threads that wait for it.
 
 ghost use Rattle.std.specs.Prelude.{◌≡◌, ◌+◌, ◌≤◌, [], IfErr, IfOk, IfSome, IfNone, None, sum_by};
 ghost use Rattle.std.specs.Vec.{vec_capacity};
@@ -37,7 +37,7 @@ use sw_card::{Card, Meter, Relay};
 use sw_core::{Answer, Ask, Core, SessionAnswer, SessionAsk, Sid, Work, runs_go_on};
 use sw_session::{Seating, View};
 
-/// The parts of a ledger.
+/// How many parts a ledger has.
 const PARTS: u64 = (1 << 33) + 1;
 
 /// A mainframe that was just made and offered cards, with a ledger and a board that have no name yet.
@@ -46,7 +46,7 @@ pub struct Opening<R: Relay, M: Meter> {
     pub core: Core<R, M>,
     /// Its ledger.
     pub blank: Blank,
-    /// Its status board, which tells its pair.
+    /// Its status board, with the core's pair.
     pub board: BlankBoard,
     pub ghost whole: { blank.parts ≡ all_parts },
     pub ghost pair: { board.table.shared.key ≡ pair_of core },
@@ -76,7 +76,7 @@ pub enum Woken {
     Closing,
 }
 
-/// What a wait comes to for whom has seen this turn: it goes on while nothing changed.
+/// The outcome of a look at the mainframe's turn: a wait continues while the turn is `seen` and the end hasn't begun.
 fn outcome_of(seen: u64, turn: u64, is_closing: bool) -> Woken
     ensures { result ≡ outcome_of seen turn is_closing }
 {
@@ -89,12 +89,74 @@ fn outcome_of(seen: u64, turn: u64, is_closing: bool) -> Woken
     }
 }
 
+/// What the threads share beside the mainframe itself, and the ends of the channels of its work.
+#[derive(Drop)]
+struct Rooms<H: Mainframe, M: Meter> {
+    slots: SeatSlots<H>,
+    available: AvailableRows,
+    outboxes: Arc<Outboxes, Global>,
+    senders: WorkSenders<M>,
+    receivers: WorkReceivers<M>,
+}
+
+impl<H: Mainframe, M: Meter> Rooms<H, M> {
+    fn new(alloc: Global) -> Result<Self, AllocError> {
+        let slots = SeatSlots::new(alloc)?;
+        let available = AvailableRows::new(alloc)?;
+        let outboxes = Arc::new(alloc, Outboxes::new(alloc)?)?;
+        let (senders, receivers) = work_posts(alloc)?;
+        Ok(Rooms {
+            slots,
+            available,
+            outboxes,
+            senders,
+            receivers,
+        })
+    }
+}
+
+/// What a new mainframe keeps behind its lock, and the status board that it publishes to.
+fn behind_lock<H: Mainframe, R: Relay, M: Meter>(
+    alloc: Global,
+    opening: Opening<R, M>,
+) -> Result<(Held<H, R, M>, Arc<StatusBoard<H>, Global>), AllocError>
+    requires first { opening.core ≡ H.first }
+    requires fresh { IsFresh opening.core }
+    requires ledger { (opening.blank.name ≡ H.name) × (opening.blank.parts ≡ H.parts) }
+    requires board { (opening.board.table.shared.table_id ≡ H.table)
+        × (opening.board.table.shared.key ≡ H.opening) }
+{
+    let Opening { core, blank, board } = opening;
+    let (events, spare) = blank.open::<H>();
+    let (board, pass) = board.open::<H>();
+    let board = match shared_twice(alloc, board) {
+        Ok(board) => board,
+        Err(fault) => {
+            drop(core);
+            return Err(fault);
+        }
+    };
+    let recorded = Recorded::new(core, pass, board.0);
+    let held = Held::new(alloc, recorded, events, spare)?;
+    Ok((held, board.1))
+}
+
+/// A board for two owners.
+fn shared_twice<H: Mainframe>(
+    alloc: Global,
+    board: StatusBoard<H>,
+) -> Result<(Arc<StatusBoard<H>, Global>, Arc<StatusBoard<H>, Global>), AllocError> {
+    let board = Arc::new(alloc, board)?;
+    let copy = Arc::try_clone(&board)?;
+    Ok((copy, board))
+}
+
 /// What all threads share.
 #[derive(Drop)]
 pub struct Shared<H: Mainframe, R: Relay, M: Meter, G: Gate + Drop> {
     /// On cache lines of its own: what is beside it is read by threads that don't have the lock.
     held: CachePadded<Mutex<Held<H, R, M>>>,
-    /// Something happened, so that what was held may be asked again.
+    /// Wakes the threads that wait: something happened that may admit a held ask.
     happened: Condvar,
     board: Arc<StatusBoard<H>, Global>,
     slots: SeatSlots<H>,
@@ -105,7 +167,7 @@ pub struct Shared<H: Mainframe, R: Relay, M: Meter, G: Gate + Drop> {
 }
 
 impl<H: Mainframe, R: Relay, M: Meter, G: Gate + Drop> Shared<H, R, M, G> {
-    /// The mainframe behind its lock, and where its work is to be received.
+    /// The mainframe behind its lock, and the receiving ends of its work.
     pub fn new(
         alloc: Global,
         opening: Opening<R, M>,
@@ -117,48 +179,56 @@ impl<H: Mainframe, R: Relay, M: Meter, G: Gate + Drop> Shared<H, R, M, G> {
         requires board { (opening.board.table.shared.table_id ≡ H.table)
             × (opening.board.table.shared.key ≡ H.opening) }
     {
-        let Opening { core, blank, board } = opening;
-        let (events, spare) = blank.open::<H>();
-        let (board, pass) = board.open::<H>();
-        let board = Arc::new(alloc, board)?;
-        let recorded = Recorded::new(core, pass, Arc::try_clone(&board)?);
-        let held = Held::new(alloc, recorded, events, spare)?;
-        let (senders, receivers) = work_posts(alloc)?;
-        let outboxes = Arc::new(alloc, Outboxes::new(alloc)?)?;
+        let (held, board) = behind_lock(alloc, opening)?;
+        let rooms = match Rooms::new(alloc) {
+            Ok(rooms) => rooms,
+            Err(fault) => {
+                drop(held);
+                drop(board);
+                return Err(fault);
+            }
+        };
+        let Rooms {
+            slots,
+            available,
+            outboxes,
+            senders,
+            receivers,
+        } = rooms;
         let shared = Shared {
             held: CachePadded::new(Mutex::new(held)),
             happened: Condvar::new(),
             board,
-            slots: SeatSlots::new(alloc)?,
+            slots,
             senders: Mutex::new(Some(senders)),
-            available: AvailableRows::new(alloc)?,
+            available,
             outboxes,
             gate,
         };
         Ok((shared, receivers))
     }
 
-    /// What a thread passes before it goes on.
+    /// The gate that each thread passes before a `Point`.
     pub fn gate(&self) -> &G {
         &self.gate
     }
 
-    /// Where one more desk notes its session, or none where no memory is to be had.
+    /// Where one more desk notes its session. None where there is no memory.
     pub fn place(&self) -> Option<Arc<Place, Global>> {
         let alloc = self.outboxes.alloc();
         let outboxes = Arc::try_clone(&self.outboxes).ok()?;
         Arc::new(alloc, Place::new(outboxes)).ok()
     }
 
-    /// A part for one more desk, or none where there are 2^33 desks, or the end has begun.
+    /// A part for one more desk. None where there are 2^33 desks, or the end has begun.
     pub fn part<W: Wait>(&self, rt: &W) -> Option<DeskPart<H>>
         ensures { IfSome result (λ part. (part.amount ≡ 0) × (part.seat.mine ≡ [])) }
     {
         self.held.lock(rt).new_part()
     }
 
-    /// Asks under the lock what no session asks, and wakes those who wait where they may go on. It gives the turn after
-    /// that too.
+    /// Makes an ask that no session makes, under the lock. If it changes the turn, it wakes the threads that wait. It
+    /// gives the turn after the ask too.
     pub fn act<W: Wait>(
         &self,
         rt: &W,
@@ -178,8 +248,9 @@ impl<H: Mainframe, R: Relay, M: Meter, G: Gate + Drop> Shared<H, R, M, G> {
         (answer, turn)
     }
 
-    /// Asks under the lock what a session asks, which is to change who has joined like this, as `act` does, and gives the
-    /// turn after that. Who joins and who leaves is followed. The answer is left in `answer`, and what its scan awaits now in `work`.
+    /// Makes a session's ask under the lock, as `act` does, and gives the turn after it. `seating`: how the ask is to
+    /// change which sessions have joined; the notes of available messages follow that. It leaves the answer in
+    /// `answer`, and in `work` what the scan awaits now.
     #[inline(always)]
     pub fn act_session<W: Wait>(
         &self,
@@ -205,7 +276,7 @@ impl<H: Mainframe, R: Relay, M: Meter, G: Gate + Drop> Shared<H, R, M, G> {
         turn
     }
 
-    /// Follows who joins and who leaves, while the mainframe is locked.
+    /// Follows a session that joins or leaves, while the mainframe is locked.
     #[inline(always)]
     fn follow<W: Wait>(
         &self,
@@ -220,8 +291,8 @@ impl<H: Mainframe, R: Relay, M: Meter, G: Gate + Drop> Shared<H, R, M, G> {
         self.available.follow(rt, seating, answer);
     }
 
-    /// Ends the scan that runs and opens every relay under one lock, and wakes those who wait. It gives the turn after
-    /// that.
+    /// Ends the scan that runs and opens every relay under one lock, and wakes the threads that wait. It gives the turn
+    /// after that.
     pub fn open_all<W: Wait>(&self, rt: &W, part: &mut DeskPart<H>) -> u64
         ensures { OpensAll H.first part.new }
     {
@@ -233,7 +304,7 @@ impl<H: Mainframe, R: Relay, M: Meter, G: Gate + Drop> Shared<H, R, M, G> {
         turn
     }
 
-    /// Sends a piece of work to its worker, or hands it back.
+    /// Sends a piece of work to its worker, or gives it back.
     pub fn send<W: Wait + Clock>(&self, rt: &W, piece: Work<M>) -> Option<Work<M>>
         ensures sent { IfNone result (H.sent (piece_seen piece)) }
         ensures back { IfSome result (λ back. piece_seen back ≡ piece_seen piece) }
@@ -245,7 +316,7 @@ impl<H: Mainframe, R: Relay, M: Meter, G: Gate + Drop> Shared<H, R, M, G> {
         senders.send::<H, W>(rt, piece)
     }
 
-    /// Waits until the mainframe's turn is another than this, for so many milliseconds at most.
+    /// Waits at most `ms` milliseconds until the mainframe's turn is another than `seen`, or the end begins.
     pub fn wait<W: Wait + Clock>(&self, rt: &W, seen: u64, ms: u32) -> Woken
         ensures { result ≡ Closing → H.over }
     {
@@ -289,13 +360,13 @@ impl<H: Mainframe, R: Relay, M: Meter, G: Gate + Drop> Shared<H, R, M, G> {
         self.held.lock(rt).recent()
     }
 
-    /// No connection is served that comes from now on, and nothing more is read from those that are: each session ends
-    /// after the message that it is in. Or all connections end at once.
+    /// Serves no connection that comes from now on, and reads nothing more from those that it serves: each session ends
+    /// after its current message. Or it ends all connections at once.
     pub fn end_lines<W: Wait>(&self, rt: &W, is_at_once: bool) {
         self.outboxes.end_all(rt, is_at_once);
     }
 
-    /// Nobody has to wait any more, and no work is sent any more: workers end once they have taken what was.
+    /// Ends every wait, and sends no more work: workers end once they have taken what was sent.
     pub fn end_work<W: Wait>(&self, rt: &W) {
         self.held.lock(rt).close();
         self.happened.notify_all();
@@ -303,9 +374,9 @@ impl<H: Mainframe, R: Relay, M: Meter, G: Gate + Drop> Shared<H, R, M, G> {
         drop(ended);
     }
 
-    /// The end, to whom gives every desk back, where all is at rest: under one lock it tells the number of events, the
-    /// opening one and all that was counted, and takes the cards out of their slots, with nothing closed. Else the desks
-    /// are handed back.
+    /// Closes down, where all is at rest: the caller gives every desk back. Under one lock it gives the number of
+    /// events, which is the opening number plus all that the shares counted, and takes the cards out of their slots,
+    /// with nothing closed. Else it gives the desks back.
     pub fn close_down<W: Wait + Clock + Copy + Drop>(
         &self,
         rt: &W,

@@ -49,15 +49,15 @@ impl<B: BoardName> SeatSlots<B> {
         Some(slot)
     }
 
-    /// Leaves a seat in the slot of the session with this number, in the place of the one that lay there. Where there
-    /// is no such session it is dropped.
+    /// Leaves a seat in the slot of the session with this number, in the place of the one there. Where there is no such
+    /// session it drops the seat.
     pub fn leave<W: Wait>(&self, rt: &W, number: u8, seat: StatusSeat<B>) {
         if let Some(slot) = self.slot(number) {
             *slot.lock(rt) = Some(seat);
         }
     }
 
-    /// A seat that has seen the same as the one that lies in the slot of the session with this number, if one does.
+    /// A seat that has seen the same as the one in the slot of the session with this number, if there is one.
     fn look<W: Wait>(&self, rt: &W, number: u8, board: &StatusBoard<B>) -> Option<StatusSeat<B>> {
         let slot = self.slot(number)?;
         let mut guard = slot.lock(rt);

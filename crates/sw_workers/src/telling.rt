@@ -1,4 +1,4 @@
-//! How an event of the mainframe is told of on the status board, and what is an event.
+//! What the status board says of an event of the mainframe, and which answers are events'.
 
 ghost use Rattle.std.specs.Prelude.{◌≡◌, ◌<◌, ◌^◌, ℕ, [], ◌∷◌, ◌++◌, Some};
 ghost use mathlib.Core.List.{IsPrefix};
@@ -15,7 +15,7 @@ use std::snapshot::Snapshot;
 use sw_card::{Meter, Relay};
 use sw_core::{Answer, Ask, SessionAnswer, SessionAsk, Work};
 
-/// An event, as it is told of.
+/// An event, as the board's history has it.
 #[derive(Drop)]
 pub struct Happened<R: Relay, M: Meter> {
     /// The number of events, this one included.
@@ -28,7 +28,7 @@ pub struct Happened<R: Relay, M: Meter> {
     pub pair: (u8, u64),
 }
 
-/// An event that a session asked for, as it is told of.
+/// An event for which a session asked, as the board's history has it.
 #[derive(Drop)]
 pub struct Answered<M: Meter> {
     /// The number of events, this one included.
@@ -54,7 +54,8 @@ pub fn is_session_event(answer: &SessionAnswer) -> bool
     }
 }
 
-/// Whether an answer is an event's: not that of an ask which is of no joined session, dropped, held or handed back.
+/// Whether an answer is an event's. It is none where the ask is of no joined session, is dropped or held, or is given
+/// back.
 pub fn is_event<R: Relay, M: Meter>(answer: &Answer<R, M>) -> bool
     ensures { result ≡ is_event (answer_seen answer.now) }
 {
@@ -103,7 +104,7 @@ pub fn tell_event<B: BoardName, R: Relay, M: Meter>(
     publish_said::<B, Brand, R, M>(pass, board, desk, event);
 }
 
-/// Publishes an event that a session asked for, as `publish_said` does.
+/// Publishes an event for which a session asked, as `publish_said` does.
 fn publish_answered<B: BoardName, T: Telling, M: Meter>(
     pass: &mut LockedPass<B>,
     board: &StatusBoard<B>,
@@ -122,7 +123,7 @@ fn publish_answered<B: BoardName, T: Telling, M: Meter>(
     pass.publish::<T>(board, desk, event.pair);
 }
 
-/// Publishes an event that a session asked for, as `tell_event` does.
+/// Publishes an event for which a session asked, as `tell_event` does.
 pub fn tell_answered<B: BoardName, M: Meter>(
     pass: &mut LockedPass<B>,
     board: &StatusBoard<B>,

@@ -6,8 +6,8 @@ use std::sync::{Mutex, MutexGuard, Wait};
 /// How often a lock is tried while another thread has it.
 const TRIES: u32 = 200;
 
-/// Takes a lock that threads have for a moment each: whoever has the guard has what stands behind the lock. It is tried
-/// first, since a thread that slept is woken later than such a lock is free.
+/// Takes a lock that each thread holds for a moment; the guard gives what is behind it. It tries the lock first, since
+/// a thread that slept is woken later than such a lock is free.
 pub fn lock_soon<'a, T, W: Wait>(lock: &'a Mutex<T>, rt: &W) -> MutexGuard<'a, T> {
     for _ in 0..TRIES {
         if let Some(guard) = lock.try_lock() {

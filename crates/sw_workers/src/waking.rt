@@ -1,4 +1,4 @@
-//! After what those who wait may go on: a row for each ask and each family of commands.
+//! The events after which waiting sessions may proceed: a row for each ask and each family of commands.
 
 ghost use Rattle.std.specs.Prelude.{◌≡◌, Option};
 ghost use Rattle.sw_core.specs.Seen.{ask_seen, answer_seen, WorkSeen, SaysSession};
@@ -10,10 +10,10 @@ use sw_card::{Meter, Relay};
 use sw_core::{Answer, Ask, SessionAnswer, SessionAsk, Sid};
 use sw_lex::{Command, Plain};
 
-/// What an ask may end of what holds those who wait.
+/// The causes of a hold that an ask may end.
 #[derive(Clone, Copy, Debug, PartialEq, Eq)]
 pub enum Concern {
-    /// Nothing.
+    /// None.
     Nobody,
     /// Locks or clears.
     Seats,
@@ -34,14 +34,14 @@ fn may_end(command: &Command) -> bool
         Command::Plain(Plain::OpenAll | Plain::Preset | Plain::Fetch | Plain::Read) => false,
         Command::Signal(_) => true,
         Command::Query(_) | Command::LayerQuery(_, _) | Command::GroupQuery(_, _) => false,
-        Command::SlotQuery(_, _) => false,
+        Command::SlotQuery(_, _) | Command::ListingCheck(_) => false,
         Command::ReadOut(_) | Command::SetStatus(_) => false,
         Command::Continuous(_) | Command::Channels(_, _) | Command::Set(_) => false,
         Command::Macros(_) | Command::Macro(_) | Command::ScanReadings(_, _) => false,
     }
 }
 
-/// What a session's ask may end of what holds those who wait.
+/// The causes of a hold that a session's ask may end.
 pub fn session_concern(ask: &SessionAsk) -> Concern
     ensures { result ≡ session_concern ask.now }
 {
@@ -59,7 +59,7 @@ pub fn session_concern(ask: &SessionAsk) -> Concern
     }
 }
 
-/// What an ask may end of what holds those who wait.
+/// The causes of a hold that an ask may end.
 pub fn concern_of<R: Relay, M: Meter>(ask: &Ask<R, M>) -> Concern
     ensures { result ≡ concern_of (ask_seen ask.now) }
 {
@@ -71,7 +71,7 @@ pub fn concern_of<R: Relay, M: Meter>(ask: &Ask<R, M>) -> Concern
     }
 }
 
-/// Whether locks or clears may be others after an event that a session asked for and that is answered so.
+/// Whether an event with this answer, for which a session asked, may change locks or clears.
 fn changes_seats(answer: &SessionAnswer) -> bool
     ensures { (work : Option WorkSeen) → result ≡ changes_seats (SaysSession answer.now work) }
 {
@@ -81,7 +81,7 @@ fn changes_seats(answer: &SessionAnswer) -> bool
     }
 }
 
-/// Whether a scan may be over after an event that no session asked for and that is answered so.
+/// Whether a scan may be over after an event with this answer, for which no session asked.
 fn may_be_over<R: Relay, M: Meter>(answer: &Answer<R, M>) -> bool
     ensures { result ≡ may_be_over (answer_seen answer.now) }
 {
@@ -94,8 +94,8 @@ fn may_be_over<R: Relay, M: Meter>(answer: &Answer<R, M>) -> bool
     }
 }
 
-/// Whether those who wait may go on after a session's answer. Of what is asked of the scan that is where a scan ran
-/// before it, and none does after it.
+/// Whether waiting sessions may proceed after a session's answer. For an ask that may end the scan, that is where a
+/// scan ran before it and none runs after it.
 pub fn session_wakes(concern: Concern, ran: bool, runs: bool, answer: &SessionAnswer) -> bool
     ensures { (work : Option WorkSeen) → result ≡ wakes concern ran runs (SaysSession answer.now work) }
 {
@@ -108,7 +108,7 @@ pub fn session_wakes(concern: Concern, ran: bool, runs: bool, answer: &SessionAn
         }
 }
 
-/// Whether those who wait may go on after an answer.
+/// Whether waiting sessions may proceed after an answer.
 pub fn wakes<R: Relay, M: Meter>(
     concern: Concern,
     ran: bool,
@@ -128,7 +128,7 @@ pub fn wakes<R: Relay, M: Meter>(
     }
 }
 
-/// The turn after an ask: another one where those who wait may go on, and where no event can be numbered any more.
+/// The turn after an ask: another one where waiting sessions may proceed, and where no more events can be numbered.
 pub fn turn_after(turn: u64, may_go_on: bool, events: u64) -> u64
     ensures { result ≡ turn_after turn may_go_on events }
 {

@@ -1,5 +1,5 @@
-//! A source whose connection ends where it has stood for too long without its session's other one, and whose reads
-//! wait as long as it takes once both stand, where nothing else has to be told meanwhile.
+//! A source that ends its connection where that is open for too long without its session's other one. Once the session
+//! has both, the reads of a first channel have no limit.
 
 use crate::outboxes::Place;
 use std::sync::Wait;
@@ -7,8 +7,8 @@ use std::time::Clock;
 use sw_session::{Channel, Source, Unread};
 
 /// What a channel reads from once its first header is whole. Until its session has both connections, each read looks
-/// for how long this one has stood. From then on the reads of a first channel have no limit: service requests are told
-/// on the second one, and what ends a session closes its lines.
+/// how long this one has been open. From then on the reads of a first channel have no limit: the second one carries
+/// service requests, and the end of a session closes its lines.
 #[derive(Drop)]
 pub struct Watched<'a, R: Source + Drop, W: Wait + Clock + Drop> {
     pub reader: R,

@@ -14,21 +14,21 @@ use sw_cage::Job;
 use sw_card::Meter;
 use sw_core::Work;
 
-/// Which mainframe it is, to the work that its desks send or carry out. That a piece was sent, or a pause waited out,
-/// is known only from the one call here that does it.
+/// Which mainframe it is, to the work that its desks send or carry out. Only the one call here that does it proves that
+/// a piece was sent, or a pause waited out.
 pub trait Carrier {
     ghost use Rattle.std.specs.Prelude.{◌≡◌, ℕ, IfErr, OnOk, true};
     ghost use Rattle.crossbeam_channel.specs.Err.{send_message};
     ghost use Rattle.sw_core.specs.Seen.{WorkSeen, Measures, Pauses};
     ghost use Rattle.sw_workers.specs.Pauses.{IsPause};
 
-    /// This piece of work was sent to the thread that carries it out.
+    /// A desk sent this piece of work to the thread that carries it out.
     ghost sent: { WorkSeen → Type 0 };
 
-    /// So many microseconds were waited out.
+    /// A desk waited this many microseconds out.
     ghost rested: { ℕ → Type 0 };
 
-    /// Sends a measurement, or hands it back where no growth is to be had or no worker is left.
+    /// Sends a measurement, or gives it back where the way can't grow or no worker is left.
     fn send_job<M: Meter, W: Wait>(
         rt: &W,
         way: &Sender<Job<M>>,
@@ -37,28 +37,28 @@ pub trait Carrier {
         ensures sent { OnOk result (sent (Measures job.1)) }
         ensures back { IfErr result (λ e. send_message e ≡ job) };
 
-    /// Sends a pause, which is whole: it ends so many microseconds after it began.
+    /// Sends a pause, which is whole: it ends as many microseconds after it began as it is long.
     fn send_pause<W: Wait>(rt: &W, way: &Sender<Pause>, pause: Pause) -> bool
         requires { IsPause pause }
         ensures { result ≡ true → sent (Pauses pause.ticket pause.micros) };
 
-    /// Waits so many microseconds out.
+    /// Waits `micros` microseconds out.
     fn rest<C: Clock>(clock: &C, micros: u64)
         ensures { rested micros };
 }
 
-/// Which mainframe it is, to its workers: that a piece of work came, or the end of a pause, is known only from the call
-/// here that waited for it.
+/// Which mainframe it is, to its workers. Only the call here that waited for it proves that a piece of work, or the end
+/// of a pause, came.
 pub trait Receiving {
     ghost use Rattle.std.specs.Prelude.{IfOk, ◌≡◌, Err};
     ghost use Rattle.std.specs.declared.time.Instant.{Instant};
     ghost use Rattle.sw_core.specs.Seen.{WorkSeen, Measures};
     ghost use Rattle.sw_workers.specs.declared.pauses.Pause.{Pause};
 
-    /// This measurement came to the thread that makes it.
+    /// The thread that makes measurements received this one.
     ghost received: { WorkSeen → Type 0 };
 
-    /// This pause came to the thread that waits it out.
+    /// The thread that waits pauses out received this one.
     ghost arrived: { Pause → Type 0 };
 
     /// This instant has come.
@@ -160,8 +160,7 @@ pub fn work_posts<M: Meter>(
 }
 
 impl<M: Meter> WorkSenders<M> {
-    /// Sends a piece of work whole, or hands it back where no growth is to be had or no worker is left. A pause begins
-    /// now.
+    /// Sends a piece of work whole, or gives it back where the way can't grow or no worker is left. A pause begins now.
     pub fn send<H: Carrier, W: Wait + Clock>(&self, rt: &W, piece: Work<M>) -> Option<Work<M>>
         ensures sent { IfNone result (H.sent (piece_seen piece)) }
         ensures back { IfSome result (λ back. piece_seen back ≡ piece_seen piece) }

@@ -38,8 +38,8 @@ pub fn run_card_worker<
     unreachable!()
 }
 
-/// Waits out the pause that stands, until no more can come, and gives its desk back. A pause that is stale is let go,
-/// and at the end none is waited out.
+/// Waits out the current pause, until no more can come, and gives its desk back. It drops a stale pause, and at the end
+/// waits none out.
 pub fn run_timer_worker<
     H: Mainframe,
     R: Relay,
@@ -64,7 +64,7 @@ pub fn run_timer_worker<
     unreachable!()
 }
 
-/// Waits for the next pause that comes, or for the end of the one that stands.
+/// Waits for the next pause that comes, or for the end of the current one.
 fn await_next<H: Receiving, W: Wait + Clock>(
     rt: &W,
     pauses: &Receiver<Pause>,
@@ -86,7 +86,7 @@ fn await_next<H: Receiving, W: Wait + Clock>(
     }
 }
 
-/// Tells the end of a pause, and sees to what comes next.
+/// Reports the end of a pause, and sees to what comes next.
 fn end_pause<H: Mainframe, R: Relay, M: Meter, G: Gate + Drop, W: Wait + Clock + Copy + Drop>(
     desk: &mut SharedDesk<H, R, M, G, W>,
     ticket: Ticket,

@@ -13,7 +13,7 @@ use std::time::Clock;
 use sw_card::{Meter, Relay};
 use sw_workers::{Gate, Mainframe, SharedDesk};
 
-/// A query whose answer was not taken is interrupted, and its own answer comes.
+/// A query interrupts an answer that was not taken, and its own answer comes.
 fn interrupts<W: Wait + Clock + Copy + Drop>(client: &Client<W>) -> bool {
     client.first.tells(IDENTITY, INTERRUPTED) && client.first.receives(IDENTIFIED)
 }
@@ -32,7 +32,7 @@ pub fn leaves_two<W: Wait + Clock + Copy + Drop>(one: &Client<W>) -> bool {
         && one.second.is_silent()
 }
 
-/// What is left in two sessions at once comes to each its own.
+/// What is left in two sessions at once reaches each its own.
 pub fn both_leave<W: Wait + Clock + Copy + Drop>(one: &Client<W>, other: &Client<W>) -> bool {
     let are_left = one.begins(1)
         && other.begins(2)
@@ -48,7 +48,7 @@ pub fn both_leave<W: Wait + Clock + Copy + Drop>(one: &Client<W>, other: &Client
     are_left && is_first && other.second.receives(ASYNC_INTERRUPTED) && other.second.is_silent()
 }
 
-/// A scan that pauses for an hour, of which is told once it runs that it has no reading, and its end.
+/// A scan that pauses for an hour, with a query of its number of readings once it runs; and a query of its end.
 const PAUSED: &[u8] = b"HS\x07\x00\xff\xff\xff\x00\x00\x00\x00\x00\x00\x00\x00\x36\
     ROUT:SCAN (@1!1);:TRIG:DEL 3600;:INIT;:TRAC:POIN:ACT?\n";
 
@@ -58,7 +58,7 @@ const ABORTED: &[u8] = b"HS\x07\x00\xff\xff\xff\x00\x00\x00\x00\x00\x00\x00\x00\
 
 const ONE_LATER: &[u8] = b"HS\x07\x00\xff\xff\xff\x02\x00\x00\x00\x00\x00\x00\x00\x021\n";
 
-/// A session that waits for a scan goes on where another aborts it while its pause stands.
+/// A session that waits for a scan proceeds where another aborts the scan in a pause.
 pub fn aborts_a_pause<W: Wait + Clock + Copy + Drop>(one: &Client<W>, other: &Client<W>) -> bool {
     one.begins(1)
         && other.begins(2)
@@ -140,7 +140,7 @@ const ALONE: [Play; 5] = [
     Play::ClearsHeld,
 ];
 
-/// Whether all of these go as they should once so many sessions have joined.
+/// Whether each of these goes as it should, once `crowd` sessions have joined.
 fn all_go<W: Threads + Wait + Clock + Copy + Drop + Send + Sync + 'static>(
     rt: W,
     alloc: Global,

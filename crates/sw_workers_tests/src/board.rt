@@ -42,7 +42,7 @@ fn publishes<B: BoardName, W: Wait>(
         .publish::<Brand>(board, desk, (byte, requests as u64));
 }
 
-/// Holds the lock until the flag is up, and tells whether it came up in time.
+/// Holds the lock until the flag is up, and gives whether it came up in time.
 pub fn holds<T: Drop, W: Wait>(
     rt: &W,
     lock: &Mutex<T>,
@@ -56,7 +56,7 @@ pub fn holds<T: Drop, W: Wait>(
     in_time
 }
 
-/// Reads once the lock is held.
+/// Reads once a thread has the lock.
 pub fn reads<B: BoardName>(
     board: &StatusBoard<B>,
     mut seat: StatusSeat<B>,
@@ -98,7 +98,7 @@ fn a_read_waits_for_no_lock(rt: HostRuntime) -> Result<(), Fail> {
     Ok(())
 }
 
-/// Publishes so many pairs, each with one more request.
+/// Publishes `most` pairs, each with one more request.
 fn publishes_on<B: BoardName, W: Wait>(
     rt: &W,
     board: &StatusBoard<B>,
@@ -114,7 +114,7 @@ fn publishes_on<B: BoardName, W: Wait>(
     }
 }
 
-/// Reads until there are so many requests. It tells whether they never went down, and how many there were.
+/// Reads until there are `most` requests. Gives whether they never went down, and how many there were.
 fn watches<B: BoardName>(
     board: &StatusBoard<B>,
     mut seat: StatusSeat<B>,
@@ -159,7 +159,8 @@ fn requests_never_go_down(rt: HostRuntime) -> Result<(), Fail> {
     Ok(())
 }
 
-/// One thread's event leaves a seat in the session's slot, and another, whose seat saw nothing of it, polls.
+/// One thread's event leaves a seat in the session's slot, and another thread, with a seat that saw nothing of it,
+/// polls.
 fn by_its_slot<B: BoardName + Send + Sync, W: Threads + Wait + Abort + Sync>(
     rt: &W,
     blank: BlankBoard,

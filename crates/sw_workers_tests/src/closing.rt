@@ -46,7 +46,7 @@ enum Ending {
     Unopened,
 }
 
-/// Closes a mainframe down that no worker serves, after a session told it this.
+/// Closes a mainframe down that no worker serves, after a session sent it this.
 fn closed_after<H: Mainframe, R: Relay, M: Meter, W: Wait + Clock + Copy + Drop>(
     rt: W,
     alloc: Global,
@@ -77,7 +77,7 @@ fn closed_after<H: Mainframe, R: Relay, M: Meter, W: Wait + Clock + Copy + Drop>
     None
 }
 
-/// Whether these cards come out, by slot, after a session told the mainframe this.
+/// Whether these cards come out, by slot, after a session sent the mainframe this.
 fn leaves<W: Wait + Clock + Copy + Drop>(
     rt: W,
     alloc: Global,
@@ -137,7 +137,7 @@ fn a_meter_that_measures_leaves_its_place_empty(rt: HostRuntime) {
     }
 }
 
-/// Whether a mainframe of which a channel was closed is closed down by such an ending.
+/// Whether a mainframe with a closed channel is closed down by such an ending.
 fn ends_by<W: Wait + Clock + Copy + Drop>(rt: W, alloc: Global, ending: Ending) -> bool {
     let serials = [1, 0, 3, 0, 0, 0, 0, 0, 0, 0, 0, 0, 0, 0, 0, 16];
     match spread(alloc) {

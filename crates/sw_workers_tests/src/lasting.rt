@@ -17,7 +17,7 @@ use sw_kinds::{SimDriver, SimSource};
 use sw_session::{Desk, Wake};
 use sw_workers::{Mainframe, Open, Opening, Shared, SharedDesk};
 
-/// A clock that goes on only by as much as is slept by it, and by a step each time that it is read, in microseconds.
+/// A clock that advances only by the time slept by it, and by a step each time that it is read, in microseconds.
 #[derive(Clone, Copy, Drop)]
 struct Slept<'a, W: Wait + Copy + Drop> {
     rt: W,
@@ -42,7 +42,7 @@ impl<W: Wait + Copy + Drop> Clock for Slept<'_, W> {
     }
 }
 
-/// A scan to its end, whose pauses take time.
+/// A scan to its end, with pauses that take time.
 #[derive(Clone, Copy)]
 pub enum Paused {
     /// Two readings, each behind a pause of TRIGger of 50 milliseconds.
@@ -83,7 +83,7 @@ impl Paused {
 /// What is played by the desks of a mainframe that has no worker.
 #[derive(Clone, Copy)]
 enum Alone {
-    /// A scan comes to its end.
+    /// A scan ends.
     Ends(Paused),
     /// The limit of a wait runs out.
     RunsOut,
@@ -114,7 +114,7 @@ fn goes_alone<H: Mainframe, R: Relay, M: Meter, W: Wait + Clock + Copy + Drop>(
     }
 }
 
-/// Whether the scan comes to its end by this desk.
+/// Whether the scan ends by this desk.
 fn ends_by<D: Desk + Drop>(alloc: Global, desk: Option<D>, scan: Paused) -> bool {
     let Some(mut desk) = desk else {
         return false;
@@ -125,9 +125,9 @@ fn ends_by<D: Desk + Drop>(alloc: Global, desk: Option<D>, scan: Paused) -> bool
     }
 }
 
-/// Whether a limit of a minute runs out by these desks, where the clock goes on by a second each time that it is read:
-/// where the limit begins, before the wait and after it. A limit that is told as it was left goes on, and another
-/// begins.
+/// Whether a limit of a minute runs out by these desks, where the clock advances by a second each time that it is read:
+/// where the limit begins, before the wait and after it. A limit that the desk gives as it was left continues, and
+/// another begins.
 fn runs_out_by<D: Desk + Drop>(alloc: Global, first: Option<D>, second: Option<D>) -> bool {
     let (Some(mut first), Some(mut second)) = (first, second) else {
         return false;
@@ -172,7 +172,7 @@ fn goes_unaided<W: Wait + Clock + Copy + Drop>(rt: W, alloc: Global, alone: Alon
     }
 }
 
-/// How far the clock has then gone on, in microseconds, where it went so by a clock with this step.
+/// How far the clock has then advanced, in microseconds, where it went so by a clock with this step.
 fn gone_on<W: Wait + Copy + Drop>(rt: W, alloc: Global, step: u64, alone: Alone) -> Option<u64> {
     let micros = AtomicU64::new(0);
     let clock = Slept {
@@ -237,8 +237,7 @@ const MOMENT: &[u8] = b"TRIG:DEL 0.001;:INIT;*OPC?;:TRAC:POIN:ACT?";
 /// A scan of 5,000 readings.
 const LONG: &[u8] = b"TRIG:DEL 0;COUN 5000;:TRAC:POIN 5000;:INIT;*OPC?;:TRAC:POIN:ACT?";
 
-/// An aborted pause holds no other up, and a long scan comes to its end. Gives the desks back, where all went as it
-/// should.
+/// An aborted pause delays no other, and a long scan ends. Gives the desks back, where all went as it should.
 pub fn goes_far<D: Desk + Drop + Send + 'static>(
     alloc: Global,
     first: D,

@@ -1,4 +1,4 @@
-//! Where a thread is held until a test lets it go on, for a bounded number of turns.
+//! Latches: each stops a thread until a test lets it continue, for a bounded number of turns.
 
 use std::alloc::{AllocError, Global};
 use std::sync::atomic::{AtomicBool, Ordering};
@@ -13,7 +13,7 @@ use sw_workers::{Gate, Point};
 /// The most turns for which one thread waits for another.
 pub const TURNS: u32 = 100_000;
 
-/// Lets other threads go on.
+/// Lets other threads run.
 pub fn turn<C: Clock>(clock: &C) {
     thread::sleep(clock, Duration::from_micros(10));
 }
@@ -30,7 +30,7 @@ pub struct Latch<C: Clock + Drop> {
 pub type SharedLatch<C> = Arc<Latch<C>, Global>;
 
 impl<C: Clock + Drop> Latch<C> {
-    /// One that nothing has reached.
+    /// A latch that no thread has reached.
     pub fn new(alloc: Global, clock: C) -> Result<SharedLatch<C>, AllocError> {
         let latch = Latch {
             clock,
@@ -46,7 +46,7 @@ impl<C: Clock + Drop> Latch<C> {
         self.reached.store(true, Ordering::SeqCst);
     }
 
-    /// Returns where it is opened, or after so many turns.
+    /// Returns once it is opened, or after `TURNS` turns.
     fn hold(&self) {
         self.reach();
         for _ in 0..TURNS {
@@ -58,7 +58,7 @@ impl<C: Clock + Drop> Latch<C> {
         self.expired.store(true, Ordering::SeqCst);
     }
 
-    /// Whether a thread reaches it, within so many turns.
+    /// Whether a thread reaches it, within `TURNS` turns.
     pub fn is_reached(&self) -> bool {
         for _ in 0..TURNS {
             if self.reached.load(Ordering::SeqCst) {
@@ -69,7 +69,7 @@ impl<C: Clock + Drop> Latch<C> {
         false
     }
 
-    /// Lets the thread go on, and says whether it was held until now.
+    /// Lets the thread continue, and says whether that was stopped until now.
     pub fn opens(&self) -> bool {
         self.opened.store(true, Ordering::SeqCst);
         !self.expired.load(Ordering::SeqCst)

@@ -1,6 +1,5 @@
-//! Tests of the mainframe behind its lock, over threads: desks, workers, gates, closing down
-//! and the status board, by their public calls.
-//! They stand here so that no crate is proved a second time for its tests.
+//! Tests of the mainframe behind its lock, over threads: desks, workers, gates, closing down and the status board, by
+//! their public calls. They have a crate of their own so that no crate is proved a second time for its tests.
 #![tactic(auto)]
 
 #[cfg(test)]

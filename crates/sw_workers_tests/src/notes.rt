@@ -8,7 +8,7 @@ use sw_kinds::SimSource;
 use sw_session::{Desk, Wake};
 use sw_workers::{AskKind, Note, Open};
 
-/// A session asks for service, and is looked at by another desk. Gives the desks back, where all went as it should.
+/// A session asks for service, and another desk looks at its status. Gives the desks back, where all went as it should.
 pub fn looks<D: Desk + Drop + Send + 'static>(
     alloc: Global,
     first: D,

@@ -87,8 +87,8 @@ impl<H: Mainframe, R: Relay, M: Meter> Scene<H, R, M> {
     }
 }
 
-/// What seats tell that were split before the two events, between them and after them, the last one read while the
-/// mainframe's lock is held.
+/// What seats read that were split before the two events, between them and after them, the last one while a thread has
+/// the mainframe's lock.
 fn tell<
     H: Mainframe + Send + Sync,
     R: Relay + Send,

@@ -29,7 +29,7 @@ const INITIALIZE: &[u8] = b"HS\x00\x00\x01\x00XX\x00\x00\x00\x00\x00\x00\x00\x07
 /// AsyncInitializeResponse.
 const ATTACHED: &[u8] = b"HS\x12\x00\x00\x00SW\x00\x00\x00\x00\x00\x00\x00\x00";
 
-/// The query `*IDN?`, after an answer that was not told to be taken; and its answer.
+/// The query `*IDN?`, after an answer that the client didn't say it took; and its answer.
 pub const IDENTITY: &[u8] = b"HS\x07\x00\xff\xff\xff\x00\x00\x00\x00\x00\x00\x00\x00\x06*IDN?\n";
 
 pub const IDENTIFIED: &[u8] =
@@ -60,19 +60,19 @@ impl<W: Wait + Clock + Copy + Drop> Client<W> {
         self.second.close();
     }
 
-    /// Whether both channels of a session come to stand, of the first, the second and so on after the crowd.
+    /// Whether a session gets both channels, the first, the second and so on after the crowd.
     pub fn begins(&self, nth: u8) -> bool {
         self.joins(nth) && self.attaches(nth)
     }
 
-    /// Whether its first channel comes to stand.
+    /// Whether it gets its first channel.
     pub fn joins(&self, nth: u8) -> bool {
         let mut joined = *b"HS\x01\x00\x01\x00\x00\x00\x00\x00\x00\x00\x00\x00\x00\x00";
         joined[7] = self.crowd.saturating_add(nth);
         self.first.tells(INITIALIZE, &joined)
     }
 
-    /// Whether its second channel comes to stand.
+    /// Whether it gets its second channel.
     pub fn attaches(&self, nth: u8) -> bool {
         let mut attach = *b"HS\x11\x00\x00\x00\x00\x00\x00\x00\x00\x00\x00\x00\x00\x00";
         attach[7] = self.crowd.saturating_add(nth);
@@ -90,7 +90,7 @@ impl<W: Wait + Clock + Copy + Drop> Client<W> {
             && self.second.is_silent()
     }
 
-    /// A query whose answer was not taken is interrupted, which is told on both connections.
+    /// A query interrupts an answer that was not taken. Both connections say so.
     pub fn is_interrupted(&self) -> bool {
         self.begins(1)
             && self.first.tells(IDENTITY, IDENTIFIED)
@@ -100,7 +100,7 @@ impl<W: Wait + Clock + Copy + Drop> Client<W> {
             && self.second.is_silent()
     }
 
-    /// What came of a program message is dropped by a device clear.
+    /// A device clear drops the part that has come of a program message.
     pub fn is_cleared(&self) -> bool {
         self.begins(1)
             && self.first.sends(BEGUN)
@@ -111,7 +111,7 @@ impl<W: Wait + Clock + Copy + Drop> Client<W> {
 }
 
 impl<W: Wait + Clock + Copy + Drop> Client<W> {
-    /// A query that is held is given up by a device clear, and nothing comes of it; the scan that it waits for stays.
+    /// A device clear makes a session give up a held query, which is never answered. The scan that it waits for stays.
     pub fn clears_what_is_held(&self) -> bool {
         self.begins(1)
             && self.first.sends(HELD)
@@ -152,7 +152,7 @@ pub const ONE: &[u8] = b"HS\x07\x00\xff\xff\xff\x00\x00\x00\x00\x00\x00\x00\x00\
 
 pub const ZERO: &[u8] = b"HS\x07\x00\xff\xff\xff\x00\x00\x00\x00\x00\x00\x00\x00\x020\n";
 
-/// A scan that waits for the bus, which the status byte tells, and a query that waits for its end.
+/// A scan that waits for the bus, which the status byte shows, and a query that waits for its end.
 const HELD: &[u8] = b"HS\x07\x00\xff\xff\xff\x00\x00\x00\x00\x00\x00\x00\x00\x3f\
     ROUT:SCAN (@1!1);:TRIG:SOUR BUS;:STAT:OPER:ENAB 32;:INIT;*OPC?\n";
 
@@ -178,7 +178,7 @@ const RELEASE: &[u8] = b"HS\x04\x00\x00\x00\x00\x00\x00\x00\x00\x00\x00\x00\x00\
 
 const LOCKED: &[u8] = b"HS\x05\x01\x00\x00\x00\x00\x00\x00\x00\x00\x00\x00\x00\x00";
 
-/// AsyncLockInfo, and its response that no lock is held.
+/// AsyncLockInfo, and its response that no session holds a lock.
 const LOCK_INFO: &[u8] = b"HS\x18\x00\x00\x00\x00\x00\x00\x00\x00\x00\x00\x00\x00\x00";
 
 const UNLOCKED: &[u8] = b"HS\x19\x00\x00\x00\x00\x00\x00\x00\x00\x00\x00\x00\x00\x00";
@@ -231,7 +231,8 @@ impl Play {
     }
 }
 
-/// A lock holds the other session's query, and its request for the lock, until it is freed. Its status is told at once.
+/// A lock holds the other session's query, and its request for the lock, until it is freed. That session gets its
+/// status at once.
 fn locks_out<W: Wait + Clock + Copy + Drop>(one: &Client<W>, other: &Client<W>) -> bool {
     one.begins(1)
         && other.begins(2)
@@ -247,7 +248,7 @@ fn locks_out<W: Wait + Clock + Copy + Drop>(one: &Client<W>, other: &Client<W>) 
         && other.first.receives(ONE)
 }
 
-/// A service request is told to both sessions, at a pause. The first status query tells of it, the next one doesn't.
+/// Both sessions get a service request, at a pause. The first status query reports it, the next one doesn't.
 fn asks_for_service<W: Wait + Clock + Copy + Drop>(one: &Client<W>, other: &Client<W>) -> bool {
     one.begins(1)
         && other.begins(2)
@@ -259,7 +260,8 @@ fn asks_for_service<W: Wait + Clock + Copy + Drop>(one: &Client<W>, other: &Clie
         && one.second.tells(STATUS, &status(4))
 }
 
-/// A client with the lock goes away within a message, and the next one has its number and nothing else of it.
+/// A client with the lock closes its connections within a message, and the next one has its number and nothing else of
+/// it.
 fn vanishes<W: Wait + Clock + Copy + Drop>(one: &Client<W>, other: &Client<W>) -> bool {
     let (front, _) = IDENTITY.split_at(19);
     let is_gone = one.begins(1)
@@ -278,7 +280,7 @@ fn vanishes<W: Wait + Clock + Copy + Drop>(one: &Client<W>, other: &Client<W>) -
         && other.first.tells(IDENTITY, IDENTIFIED)
 }
 
-/// A session with the lock whose connection fails holds nobody up.
+/// A session that has the lock and a connection that fails stops no other.
 fn breaks_with_the_lock<W: Wait + Clock + Copy + Drop>(one: &Client<W>, other: &Client<W>) -> bool {
     let is_held = one.begins(1)
         && other.begins(2)
@@ -305,7 +307,7 @@ fn leaves_a_part<W: Wait + Clock + Copy + Drop>(one: &Client<W>, other: &Client<
         && other.first.tells(CLOSED_QUERY, ZERO)
 }
 
-/// What is left to a second channel that doesn't come to write it never reaches the next session of the number.
+/// What is left to a second channel that doesn't write it never reaches the next session of the number.
 fn leaves_aside<W: Wait + Clock + Copy + Drop>(one: &Client<W>, other: &Client<W>) -> bool {
     let is_left = one.begins(1)
         && one.second.stops()
@@ -393,7 +395,7 @@ fn plays<W: Threads + Wait + Clock + Copy + Drop + Send + Sync + 'static>(
     plays_after(rt, alloc, 0, play)
 }
 
-/// The same once so many sessions have joined, so that the clients are the sessions after these.
+/// The same once `crowd` sessions have joined, so that the clients are the sessions after these.
 pub fn plays_after<W: Threads + Wait + Clock + Copy + Drop + Send + Sync + 'static>(
     rt: W,
     alloc: Global,

@@ -175,7 +175,7 @@ impl<
 /// How many events open every relay of it: each of 16 slots is asked for its card, and two have one, which goes back.
 const OPENING: u64 = 18;
 
-/// The serial numbers of a fitted mainframe's cards, by slot, where 0 stands for no card.
+/// The serial numbers of a fitted mainframe's cards, by slot, with 0 for no card.
 const SERIALS: [u32; 16] = [1, 0, 0, 4, 0, 0, 0, 0, 0, 0, 0, 0, 0, 0, 0, 0];
 
 /// Whether these are the cards that came out, by slot, with nothing closed.
@@ -210,8 +210,8 @@ fn play_behind<
     }
 }
 
-/// Plays a scene over a new mainframe whose meter has this source, closes it down, and gives its last note where all
-/// went as it should.
+/// Plays a scene over a new mainframe with a meter that has this source, closes it down, and gives its last note where
+/// all went as it should.
 pub fn played<
     I: Source + Send + 'static,
     G: Gate + Drop + Send + Sync + 'static,
@@ -220,7 +220,7 @@ pub fn played<
     played_by(rt, alloc, SimDriver::new(), source, gate, scene)
 }
 
-/// The same of one whose relay card has this driver.
+/// The same of a mainframe with a relay card that has this driver.
 pub fn played_by<
     D: Driver + Send + 'static,
     I: Source + Send + 'static,
@@ -259,7 +259,7 @@ pub fn tells<D: Desk>(
     line.as_slice() == wanted
 }
 
-/// Whether a session is answered that by a message in the end, within so many turns.
+/// Whether a message gets a session this answer in the end, within `TURNS` turns.
 pub fn comes_to_tell<D: Desk, C: Clock>(
     alloc: Global,
     clock: &C,
@@ -287,14 +287,14 @@ pub fn releases<D: Desk>(desk: &mut D, sid: Sid) -> bool {
     is_lock(desk.ask(SessionAsk::Release(sid)))
 }
 
-/// Whether the answer, which is let go, is that an exclusive lock was granted or freed.
+/// Whether the answer is that an exclusive lock was granted or freed. It drops the answer.
 fn is_lock(answer: SessionAnswer) -> bool {
     let is_so = matches!(answer, SessionAnswer::Lock(1));
     drop(answer);
     is_so
 }
 
-/// Joins as so many sessions by one desk, and gives it back where all are joined.
+/// Joins as `crowd` sessions by one desk, and gives it back where all are joined.
 pub fn gathers<D: Desk + Drop>(desk: D, crowd: u8) -> Option<D> {
     let mut desk = desk;
     for _ in 0..crowd {

@@ -1,5 +1,5 @@
-//! A mainframe that several threads share: what is asked while a worker is held, what a lock holds, what is seen of a
-//! session's status, and what closing it down gives.
+//! A mainframe that several threads share: what is asked while a worker is stopped, what a lock holds, what is seen of
+//! a session's status, and what closing it down gives.
 
 use crate::lasting::{Paused, goes_far, lasts};
 use crate::latches::{Latch, LatchedDriver, LatchedGate, LatchedSource, SharedLatch, turn};
@@ -71,7 +71,8 @@ impl<W: Threads + Wait + Clock + Copy + Drop + Send + Sync + 'static> Scene<W> {
     }
 }
 
-/// A scan begins, and what it awaits goes on only once two sessions were answered, one of them what OPERation tells.
+/// A scan begins. What it awaits continues only once two sessions were answered, one of them with OPERation's
+/// condition.
 #[derive(Drop)]
 pub struct Meanwhile<C: Clock + Drop> {
     latch: SharedLatch<C>,
@@ -366,7 +367,7 @@ fn closes_one<D: Desk>(alloc: Global, desk: D, sid: Sid) -> (D, bool) {
 }
 
 impl<W: Threads + Wait + Clock + Copy + Drop + Send + Sync + 'static> Busy<W> {
-    /// Gives the desks back, where another desk sees the session's status before the card goes on.
+    /// Gives the desks back, where another desk sees the session's status before the card continues.
     fn play<D: Desk + Drop + Send + 'static>(
         &self,
         rt: W,
@@ -429,7 +430,7 @@ pub fn awaits_end<D: Desk, C: Clock + Drop>(
 pub const TRIGGERED: &[u8] = b"ROUT:SCAN (@1!1);:TRIG:SOUR BUS;:INIT";
 
 impl<W: Threads + Wait + Clock + Copy + Drop + Send + Sync + 'static> Awaited<W> {
-    /// Gives the desks back, where the session went on.
+    /// Gives the desks back, where the session proceeded.
     fn play<D: Desk + Drop + Send + 'static>(
         &self,
         rt: W,
@@ -458,7 +459,7 @@ impl<W: Threads + Wait + Clock + Copy + Drop + Send + Sync + 'static> Awaited<W>
     }
 }
 
-/// Lets other threads go on for a while.
+/// Lets other threads run for a while.
 pub fn pauses<C: Clock>(clock: &C) -> bool {
     for _ in 0..100 {
         turn(clock);

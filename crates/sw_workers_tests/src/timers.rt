@@ -13,7 +13,7 @@ use sw_kinds::SimSource;
 use sw_session::Desk;
 use sw_workers::{AskKind, Note, Open, Point};
 
-/// A scan waits for TRIGger's timer, whose end is held while another session's signal passes that wait.
+/// A scan waits for TRIGger's timer. A gate stops the timer's end while another session's signal passes that wait.
 #[derive(Drop)]
 pub struct Signalled<C: Clock + Drop> {
     latch: SharedLatch<C>,
@@ -29,7 +29,7 @@ const PASSES: &[u8] = b"STAT:OPER?;:STAT:OPER:COND?;:TRIG:SIGN";
 /// What all three readings are.
 const READINGS: &[u8] = b"1;0.000000001,0.000000002,0.000000003\n";
 
-/// Whether TRIGger comes to wait once more, within so many turns. It is only looked at, so that no event is counted.
+/// Whether TRIGger waits once more, within `TURNS` turns. It only looks at the status, so that no event is counted.
 fn comes_to_wait<D: Desk, C: Clock>(clock: &C, desk: &mut D, sid: Sid) -> bool {
     for _ in 0..TURNS {
         if shows(desk, sid, 128, 2, false) {

@@ -18,11 +18,12 @@ use sw_workers::Open;
 /// How often two sessions wait.
 const ROUNDS: u8 = 10;
 
-/// Within what time both go on in one round at least: less than the time after which a waiter looks by itself.
+/// Within what time both sessions proceed in one round at least: less than the time after which a waiter looks by
+/// itself.
 const AT_ONCE_MS: u64 = 60;
 
 /// Two sessions wait for the end of a scan, each in a thread of its own. Gives their desks back, with how long it took
-/// until both went on once it was aborted, where they did.
+/// until both proceeded once it was aborted, where they did.
 fn go_on<
     D: Desk + Drop + Send + 'static,
     W: Threads + Wait + Clock + Copy + Drop + Send + Sync + 'static,
@@ -61,7 +62,7 @@ fn go_on<
     None
 }
 
-/// Two sessions that wait go on together. Gives the desks back, where all went as it should.
+/// Two sessions that wait proceed together. Gives the desks back, where all went as it should.
 pub fn go_on_together<
     D: Desk + Drop + Send + 'static,
     W: Threads + Wait + Clock + Copy + Drop + Send + Sync + 'static,
@@ -98,7 +99,7 @@ fn two_sessions_that_wait_go_on_together(rt: HostRuntime) {
     assert!(rt; played(rt, rt.alloc(), source, Open, &Scene::Together).is_some());
 }
 
-/// What waits for the end of a scan, where it is held.
+/// The ask that waits for the end of a scan, where the desk holds it.
 fn held<D: Desk>(desk: &mut D, sid: Sid) -> Option<SessionAsk> {
     let query = Command::Plain(Plain::OperationCompleteQuery);
     match desk.ask(SessionAsk::Unit(sid, query, false)) {
@@ -110,7 +111,7 @@ fn held<D: Desk>(desk: &mut D, sid: Sid) -> Option<SessionAsk> {
     }
 }
 
-/// Whether what waits for the end of a scan is held.
+/// Whether the desk holds the ask that waits for the end of a scan.
 pub fn is_held<D: Desk>(desk: &mut D, sid: Sid) -> bool {
     match held(desk, sid) {
         Some(ask) => {

@@ -1,4 +1,4 @@
-//! After what those who wait go on, and after what not.
+//! The events after which waiting sessions proceed, and events after which they don't.
 
 use crate::latches::Latch;
 use crate::shop::{join, locks, played, played_by, releases, tells};
@@ -12,7 +12,7 @@ use sw_kinds::{Driver, Fuse, SimDriver, SimSource, Source, SourceFuse};
 use sw_session::{Desk, Wake};
 use sw_workers::Open;
 
-/// Whether nothing happened since the desk asked last that may let it go on.
+/// Whether nothing that may let the session proceed happened since the desk asked last.
 fn sleeps_on<D: Desk>(desk: &mut D) -> bool {
     desk.wait(Some(1)) == Wake::Over
 }
@@ -62,7 +62,7 @@ fn nobody_is_woken_by_what_changes_nothing(rt: HostRuntime) {
     assert!(rt; played(rt, rt.alloc(), source, Open, &Scene::Undisturbed).is_some());
 }
 
-/// Whether who waits for a scan goes on where this ends it.
+/// Whether a session that waits for a scan proceeds where this ends it.
 fn goes_on<
     D: Driver + Send + 'static,
     I: Source + Send + 'static,

@@ -49,7 +49,7 @@ impl Wire {
         self.ended.store(true, Ordering::SeqCst);
     }
 
-    /// Waits while reads are stopped, for so many turns at most. Whether it waited.
+    /// Waits while reads are stopped, for at most `TURNS` turns. Whether it waited.
     fn is_held<C: Clock>(&self, clock: &C) -> bool {
         if !self.stopped.load(Ordering::SeqCst) {
             return false;
@@ -176,7 +176,7 @@ impl<W: Wait + Clock + Copy + Drop> End<W> {
         self.wire.broken.store(true, Ordering::SeqCst);
     }
 
-    /// Whether the server comes to an end, within so many turns.
+    /// Whether the server ends, within `TURNS` turns.
     pub fn ends(&self) -> bool {
         for _ in 0..TURNS {
             if self.wire.ended.load(Ordering::SeqCst) {
@@ -187,7 +187,7 @@ impl<W: Wait + Clock + Copy + Drop> End<W> {
         false
     }
 
-    /// Stops the server's reads, and says whether one comes to wait, within so many turns.
+    /// Stops the server's reads, and says whether one waits, within `TURNS` turns.
     pub fn stops(&self) -> bool {
         self.wire.stopped.store(true, Ordering::SeqCst);
         for _ in 0..TURNS {
@@ -220,7 +220,7 @@ impl<W: Wait + Clock + Copy + Drop> End<W> {
         true
     }
 
-    /// Whether these bytes come next, within so many turns.
+    /// Whether these bytes come next, within `TURNS` turns.
     pub fn receives(&self, wanted: &[u8]) -> bool {
         for _ in 0..TURNS {
             if self.came() >= wanted.len() {
@@ -244,7 +244,7 @@ impl<W: Wait + Clock + Copy + Drop> End<W> {
         self.sends(message) && self.receives(wanted)
     }
 
-    /// Whether this is answered by that in the end, within so many turns, where both answers have as many bytes.
+    /// Whether this is answered by that in the end, within 1000 tries, where both answers have as many bytes.
     pub fn comes_to_tell(&self, message: &[u8], wanted: &[u8]) -> bool {
         for _ in 0..1000 {
             if self.tells(message, wanted) {
@@ -256,7 +256,7 @@ impl<W: Wait + Clock + Copy + Drop> End<W> {
         false
     }
 
-    /// Lets go what came.
+    /// Drops what came.
     fn drains(&self) {
         self.wire.to_client.lock(&self.rt).clear();
     }

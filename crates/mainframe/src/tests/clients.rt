@@ -9,7 +9,7 @@ use std::thread::Threads;
 use std::time::Clock;
 use sw_serve::{Door, Silent};
 
-/// Whether so many connections are served on a listener, and the mainframe then closed down.
+/// Whether `limit` connections are served on a listener, and the mainframe then closed down.
 pub fn serves<W: Threads + Wait + Clock + Copy + Drop + Send + Sync + 'static>(
     rt: W,
     alloc: Global,
@@ -27,7 +27,7 @@ pub struct Client {
     pub second: TcpStream,
 }
 
-/// A header of this kind, control code and parameter, whose payload has so many bytes.
+/// A header of this kind, control code and parameter, for a payload of `length` bytes.
 pub fn header(kind: u8, control: u8, parameter: [u8; 4], length: u8) -> [u8; 16] {
     let mut bytes = *b"HS\x00\x00\x00\x00\x00\x00\x00\x00\x00\x00\x00\x00\x00\x00";
     bytes[2] = kind;
@@ -58,7 +58,7 @@ pub fn answers(stream: &mut TcpStream, asked: &[u8], told: &[u8]) -> bool {
     stream.write_all(asked).is_ok() && stream.read_exact(came).is_ok() && &*came == told
 }
 
-/// Whether the connection ends with nothing more than so many bytes.
+/// Whether the connection ends with at most `most` bytes more.
 fn ends_after(stream: &mut TcpStream, most: usize) -> bool {
     let mut rest = [0u8; 64];
     let mut came = 0;
@@ -90,7 +90,7 @@ impl Client {
         ends_after(&mut self.first, 0) && ends_after(&mut self.second, 16)
     }
 
-    /// Whether the server ends both connections, whatever it said before.
+    /// Whether the server ends both connections; it may say anything before that.
     pub fn is_left(&mut self) -> bool {
         ends_after(&mut self.first, 64) && ends_after(&mut self.second, 64)
     }

@@ -142,7 +142,20 @@ fn a_rack(rt: HostRuntime) -> Result<(), Fail> {
     check_refused(&rt, alloc, &["rack"], ErrorKind::MissingRequiredArgument)?;
     check_refused(&rt, alloc, &["off"], ErrorKind::MissingRequiredArgument)?;
     let both = ["run", "--fuse", "1", "--rack", "F"];
+    check_refused(&rt, alloc, &both, ErrorKind::ArgumentConflict)?;
+    let both = ["run", "--program", "F", "--rack", "F"];
     check_refused(&rt, alloc, &both, ErrorKind::ArgumentConflict)
+}
+
+#[test]
+fn a_scan_program(rt: HostRuntime) -> Result<(), Fail> {
+    let alloc = rt.alloc();
+    let plain = Order::Program(None, file(alloc)?);
+    assert_eq!(rt; asked(alloc, &["run", "--program", "F"])?, Ok(plain));
+    let fused = Order::Program(Some(1), file(alloc)?);
+    let words = ["run", "--fuse", "1", "--program", "F"];
+    assert_eq!(rt; asked(alloc, &words)?, Ok(fused));
+    Ok(())
 }
 
 #[test]

@@ -71,7 +71,7 @@ fn a_write_takes_nothing(rt: HostRuntime) -> Result<(), Fail> {
     Ok(())
 }
 
-/// How many bytes were handed on by a writer.
+/// How many bytes a writer flushed.
 #[derive(Drop)]
 struct Tally {
     handed_on: AtomicU64,
@@ -101,8 +101,8 @@ impl Write for Keeper {
     }
 }
 
-/// Gives a piece of a line at a time, and looks before each how much was handed on by then. It fails where that is not
-/// what the lines before have answered. It is interrupted once.
+/// Gives a piece of a line at a time, and looks before each how much the writer has flushed by then. It fails where
+/// that is not what the lines before have answered. It is interrupted once.
 #[derive(Drop)]
 struct Looker {
     given: u8,
@@ -211,7 +211,7 @@ impl Write for Failing {
     }
 }
 
-/// What a run comes to whose reader fails by this cause.
+/// The fault of a run with a reader that fails by this cause.
 fn fault_of_read(alloc: Global, kind: ErrorKind) -> Result<Option<RunFault>, Fail> {
     let mut reader = BufReader::new(alloc, Failing { kind })?;
     let mut out = Vec::new(alloc);

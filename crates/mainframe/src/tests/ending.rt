@@ -14,7 +14,7 @@ use sw_serve::{Door, Silent};
 /// Within how many milliseconds of its input's end a server ends.
 const END_MS: u128 = 2_000;
 
-/// A scan whose pause has an hour, and a query that waits for its end.
+/// A scan with a pause of an hour, and a query that waits for its end.
 const LONG: &[u8] = b"HS\x07\x00\xff\xff\xff\x00\x00\x00\x00\x00\x00\x00\x00\x30\
     ROUT:SCAN (@1!1);:TRIG:DEL 3600;:INIT;*OPC;*OPC?";
 
@@ -35,7 +35,7 @@ fn serves_until<W: Threads + Wait + Clock + Copy + Drop + Send + Sync + 'static>
     Instant::now(&rt).ok()
 }
 
-/// So many clients, the sessions from 1 on.
+/// As many clients as `count`, the sessions from 1 on.
 fn clients<R: Net<Stream = TcpStream>>(
     rt: &R,
     alloc: Global,
@@ -51,7 +51,7 @@ fn clients<R: Net<Stream = TcpStream>>(
     Some(clients)
 }
 
-/// Ends the input, and tells when, where all clients are then left.
+/// Ends the input, and gives when, where the server then leaves all clients.
 fn all_are_left<C: Clock>(rt: &C, clients: &mut [Client], output: &TcpStream) -> Option<Instant> {
     let start = Instant::now(rt).ok()?;
     output.shutdown(Shutdown::Write).ok()?;
@@ -64,7 +64,8 @@ fn all_are_left<C: Clock>(rt: &C, clients: &mut [Client], output: &TcpStream) ->
 }
 
 /// Makes clients busy: session 2 waits for a pause of an hour, session 3 has the lock, session 16 waits for it, and
-/// session 4 has only begun a message. Whether all that was sent, and the lock was given; none where one isn't there.
+/// session 4 has only begun a message. Whether all that was sent, and session 3 got the lock; none where a client isn't
+/// there.
 fn are_busy(clients: &mut [Client]) -> Option<bool> {
     let pauses = clients.get_mut(1)?.first.write_all(LONG).is_ok();
     let has_lock = answers(&mut clients.get_mut(2)?.second, LOCK, LOCKED);
@@ -74,7 +75,7 @@ fn are_busy(clients: &mut [Client]) -> Option<bool> {
     Some(pauses && has_lock && waits && begins)
 }
 
-/// Sixteen clients, of which four are busy and the others idle, and a connection that has only begun a header.
+/// Sixteen clients, four busy and the others idle, and a connection that has only begun a header.
 fn busy<R: Net<Stream = TcpStream> + Clock>(
     rt: &R,
     alloc: Global,
@@ -101,7 +102,7 @@ fn idle<R: Net<Stream = TcpStream> + Clock>(
     all_are_left(rt, clients.as_mut_slice(), output)
 }
 
-/// Whether a server ends soon after its input did, which `plays` tells.
+/// Whether a server ends soon after its input did, by these two times.
 fn ends_soon(start: Option<Instant>, end: Option<Instant>) -> bool {
     match (start, end) {
         (Some(start), Some(end)) => { end.saturating_duration_since(start).as_millis() < END_MS }

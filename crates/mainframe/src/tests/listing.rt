@@ -7,7 +7,7 @@ use std::io;
 use std::io::{ErrorKind, Read, Write};
 use std::test::Fail;
 
-/// Three passes round two channels, whose first loop back goes to this step.
+/// Three passes round two channels. The first loop goes back to this step.
 const THREE_PASSES: &[u8] =
     b"scan 1\nmeter 4\nset 0 1\nset 1 1\nset 2 1\nclose 1!1\nread\nopen 1!1\nclose 1!2\nread\n\
     open 1!2\nloop 2 3\nclose 1!1\nread\nopen 1!1\nloop 1 2\nloop 0 1\nhalt\n";

@@ -16,7 +16,7 @@ use std::alloc::Global;
 use std::process::Abort;
 use std::test::Fail;
 
-/// Types these bytes, of which the `fuse`-th closing of slot 1 fails, and compares what comes back.
+/// Types these bytes, and compares what comes back. The `fuse`-th closing of slot 1 fails.
 fn check(
     rt: &impl Abort,
     alloc: Global,

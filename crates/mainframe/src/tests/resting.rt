@@ -10,7 +10,7 @@ use std::test::Fail;
 use std::time::{Clock, Duration};
 use sw_serve::{Arrival, Door, Port, Silent};
 
-/// A clock of the test's own: nobody sleeps by it, and it adds up for how many milliseconds it was asked.
+/// A clock of the test's own: no thread sleeps by it, and it adds up for how many milliseconds it was asked.
 #[derive(Clone, Copy, Drop)]
 struct Watch<'a, W: Wait + Copy + Drop> {
     _rt: W,

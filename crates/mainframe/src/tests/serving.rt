@@ -6,7 +6,7 @@ use std::net::{Net, Shutdown, SocketAddr, TcpListener, TcpStream};
 use std::test::Fail;
 use std::thread::join;
 
-/// Initialize with the sub-address `hislip0`, and the answer to whom becomes session 1.
+/// Initialize with the sub-address `hislip0`, and the answer to the client that becomes session 1.
 const INITIALIZE: &[u8] = b"HS\x00\x00\x01\x00XX\x00\x00\x00\x00\x00\x00\x00\x07hislip0";
 
 const INITIALIZED: &[u8] = b"HS\x01\x00\x01\x00\x00\x01\x00\x00\x00\x00\x00\x00\x00\x00";
@@ -29,14 +29,14 @@ const SMALL: &[u8] =
 const LARGEST: &[u8] =
     b"HS\x10\x00\x00\x00\x00\x00\x00\x00\x00\x00\x00\x00\x00\x08\x00\x00\x00\x00\x00\x01\x00\x00";
 
-/// `*IDN?` from whom has read the answer before, and its answer in two parts.
+/// `*IDN?` of a client that has read the answer before, and its answer in two parts.
 const ASKED_AGAIN: &[u8] = b"HS\x07\x01\xff\xff\xff\x02\x00\x00\x00\x00\x00\x00\x00\x06*IDN?\n";
 
 const TOLD_IN_PARTS: &[u8] =
     b"HS\x06\x00\xff\xff\xff\x02\x00\x00\x00\x00\x00\x00\x00\x10OPENBENCH,SWM8,0\
     HS\x07\x00\xff\xff\xff\x02\x00\x00\x00\x00\x00\x00\x00\x05,1.0\n";
 
-/// `*IDN?` from whom has not told that it read the answer; what both connections tell of that, and the answer.
+/// `*IDN?` of a client that has not said that it read the answer, what both connections say of that, and the answer.
 const ASKED_UNREAD: &[u8] = b"HS\x07\x00\xff\xff\xff\x04\x00\x00\x00\x00\x00\x00\x00\x06*IDN?\n";
 
 const INTERRUPTED: &[u8] = b"HS\x0d\x00\xff\xff\xff\x04\x00\x00\x00\x00\x00\x00\x00\x00";
@@ -47,7 +47,7 @@ const TOLD_ALL_THE_SAME: &[u8] =
     b"HS\x06\x00\xff\xff\xff\x04\x00\x00\x00\x00\x00\x00\x00\x10OPENBENCH,SWM8,0\
     HS\x07\x00\xff\xff\xff\x04\x00\x00\x00\x00\x00\x00\x00\x05,1.0\n";
 
-/// `SYST:ERR?` from whom has read that answer, and what it is told.
+/// `SYST:ERR?` of a client that has read that answer, and its answer.
 const ASKED_WHY: &[u8] = b"HS\x07\x01\xff\xff\xff\x06\x00\x00\x00\x00\x00\x00\x00\x0aSYST:ERR?\n";
 
 const TOLD_WHY: &[u8] =
@@ -72,8 +72,8 @@ fn answers(stream: &mut TcpStream, asked: &[u8], told: &[u8]) -> bool {
     stream.write_all(asked).is_ok() && stream.read_exact(came).is_ok() && &*came == told
 }
 
-/// Whether the status tells in the end that a message is available: it does once the answer's end was written, which
-/// may come after its reader asks.
+/// Whether the status says in the end that a message is available. It does once the answer's end was written, which may
+/// come after its reader asks.
 fn tells_of_a_message(second: &mut TcpStream) -> bool {
     for _ in 0..TRIES {
         if answers(second, STATUS, AVAILABLE) {
@@ -89,7 +89,7 @@ fn leaves(stream: &mut TcpStream) -> bool {
     stream.shutdown(Shutdown::Write).is_ok() && matches!(stream.read(&mut rest), Ok(0))
 }
 
-/// Whether a query is told to have interrupted the answer before it, on both connections, and is answered.
+/// Whether both connections say that a query interrupted the answer before it, and the query is answered.
 fn is_interrupted(first: &mut TcpStream, second: &mut TcpStream) -> bool {
     answers(first, ASKED_UNREAD, INTERRUPTED)
         && answers(first, &[], TOLD_ALL_THE_SAME)
@@ -131,7 +131,7 @@ fn a_session_over_two_connections(rt: HostRuntime) -> Result<(), Fail> {
     Ok(())
 }
 
-/// Whether so many connections, one after another, each become session 1: none that ended is left.
+/// Whether `count` connections, one after another, each become session 1: none that ended is left.
 fn each_is_the_first<R: Net<Stream = TcpStream>>(rt: &R, addr: SocketAddr, count: u32) -> bool {
     (0..count).all(|_| comes_and_goes(rt, addr))
 }

@@ -31,7 +31,7 @@ fn is_soon<C: Clock>(rt: &C, start: Instant) -> bool {
     }
 }
 
-/// Pours until it is told to stop, and says whether all went.
+/// Pours until `stop` is set, and says whether all went.
 fn pours(stream: &mut TcpStream, stop: &AtomicBool) -> bool {
     for _ in 0..1_000_000u32 {
         if stop.load(Ordering::SeqCst) {
@@ -44,7 +44,7 @@ fn pours(stream: &mut TcpStream, stop: &AtomicBool) -> bool {
     false
 }
 
-/// Asks for the lock within half a second, and says whether it is told in time that it didn't get it.
+/// Asks for the lock within half a second, and says whether the answer that it didn't get it comes in time.
 fn is_refused<C: Clock>(rt: &C, stream: &mut TcpStream, stop: &AtomicBool) -> bool {
     let Ok(start) = Instant::now(rt) else {
         return false;
@@ -54,7 +54,7 @@ fn is_refused<C: Clock>(rt: &C, stream: &mut TcpStream, stop: &AtomicBool) -> bo
     is_told && is_soon(rt, start)
 }
 
-/// The limit of session 3 runs out while session 2, which has the lock, wakes those who wait again and again.
+/// The limit of session 3 runs out while session 2, which has the lock, wakes the threads that wait again and again.
 fn runs_out<R: Net<Stream = TcpStream> + Threads + Clock + Sync>(
     rt: &R,
     addr: SocketAddr,
@@ -117,12 +117,12 @@ fn stale_pauses(alloc: Global) -> Option<Vec<u8>> {
     program(alloc, 0, text.as_slice())
 }
 
-/// A scan whose pause has 10 milliseconds, and that it has ended.
+/// A scan with a pause of 10 milliseconds, and that it has ended.
 const SHORT: &[u8] = b"TRIG:DEL 0.01;:INIT;*OPC?\n";
 
 const ENDED: &[u8] = b"HS\x07\x00\xff\xff\xff\x00\x00\x00\x00\x00\x00\x00\x00\x021\n";
 
-/// A scan whose pause has an hour.
+/// A scan with a pause of an hour.
 const LONG: &[u8] = b"TRIG:DEL 3600;:INIT\n";
 
 /// Session 2 begins many pauses that it aborts, and then a short one that is over in time, and leaves within a long

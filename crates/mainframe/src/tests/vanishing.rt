@@ -25,7 +25,7 @@ const NO_HEADER: &[u8] = b"GET / HTTP/1.0\r\n";
 
 const FATAL: &[u8] = b"HS\x02\x01\x00\x00\x00\x00\x00\x00\x00\x00\x00\x00\x00\x00";
 
-/// Asks for what is held, on both connections, and goes away.
+/// Makes asks that the mainframe holds, on both connections, and closes them.
 fn asks_and_vanishes(client: &mut Client) -> bool {
     client.first.write_all(CLOSE).is_ok()
         && client.second.write_all(LOCK_LATER).is_ok()

@@ -1,4 +1,4 @@
-//! What the relays are told, what a line that fails comes to, and what is said of cards that are wired wrongly.
+//! What the relays get, what a line that fails means, and what is said of cards that are wired wrongly.
 
 use crate::fault::Fault;
 use crate::line_driver::LineDriver;
@@ -50,7 +50,7 @@ fn answered<W: Wait + Copy + Drop>(
     Ok(told)
 }
 
-/// Whether these lines are answered so, and the relays were told that.
+/// Whether these lines are answered so, and the relays got that.
 fn talks<W: Wait + Copy + Drop>(
     rt: W,
     alloc: Global,

@@ -18,7 +18,7 @@ impl<R: Relay, M: Meter> Cage<R, M> {
     pub fn layout(&self, alloc: Global) -> Result<Layout, AllocError>
         ensures { IfOk result (λ layout. layout ≡ cage_layout self.now.seen) }
     {
-        // Reading a field tells the proof what holds of every `Cage`.
+        // Reading a field gives the proof what holds of every `Cage`.
         let _ = &self.slots;
         let mut bays = Vec::with_capacity(alloc, SLOT_PLACES)?;
         for before in 0..SLOTS {
@@ -38,7 +38,7 @@ impl<R: Relay, M: Meter> Cage<R, M> {
         self.slots.contents(alloc, slot)
     }
 
-    /// Whether the slot holds what the layout's slot tells, where a meter that is out counts as the slot's.
+    /// Whether the slot holds what the layout's slot says, where a meter that is out counts as the slot's.
     fn has_contents(&self, slot: u8, contents: &Slot) -> bool
         requires { (1 ≤ slot) × (slot ≤ most_slots) }
         ensures { IsTrue result ↔ (contents.now ≡ slot_at (cage_layout self.now.seen) slot) }
@@ -49,11 +49,11 @@ impl<R: Relay, M: Meter> Cage<R, M> {
         self.slots.is_as(slot, contents)
     }
 
-    /// Whether the layout is that of the cards, as [`Cage::layout`] tells it. It takes no memory.
+    /// Whether the layout is that of the cards, as [`Cage::layout`] gives it. It takes no memory.
     pub fn has_layout(&self, layout: &Layout) -> bool
         ensures { IsTrue result ↔ (layout.now ≡ cage_layout self.now.seen) }
     {
-        // Reading a field tells the proof what holds of every `Cage`.
+        // Reading a field gives the proof what holds of every `Cage`.
         let _ = &self.slots;
         let bays = layout.slots();
         if bays.len() != SLOT_PLACES {
@@ -74,7 +74,7 @@ impl<R: Relay, M: Meter> Cage<R, M> {
         self.slots.closed_chans(alloc)
     }
 
-    /// Whether these are the closed channels, as [`Cage::closed_chans`] tells them. It takes no memory.
+    /// Whether these are the closed channels, as [`Cage::closed_chans`] gives them. It takes no memory.
     pub fn has_closed(&self, chans: &[Chan]) -> bool
         ensures { IsTrue result ↔ (chans.now ≡ closed_list self.now.seen.cards) }
     {

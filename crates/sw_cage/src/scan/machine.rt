@@ -51,8 +51,8 @@ pub(crate) fn go_past<R: Relay, M: Meter>(
     go_on(slots, out, scan, number)
 }
 
-/// Opens and closes up to what the scan awaits next, and tells what that is. After a fault every relay is open. A scan
-/// that is over leaves `None`.
+/// Opens and closes up to what the scan awaits next, and returns what that is. After a fault every relay is open. A
+/// scan that is over leaves `None`.
 #[inline(always)]
 pub(crate) fn go_on<R: Relay, M: Meter>(
     slots: &mut Slots<R, M>,
@@ -138,7 +138,7 @@ fn close_each<R: Relay, M: Meter>(
     Ok(())
 }
 
-/// What the scan awaits where it stands; for a reading its meter goes out. A scan that is over leaves `None`.
+/// What the scan awaits at its place; for a reading its meter goes out. A scan that is over leaves `None`.
 #[inline(always)]
 fn arrive<R: Relay, M: Meter>(
     slots: &mut Slots<R, M>,

@@ -1,4 +1,4 @@
-//! A scan that runs: its code, and where it stands in it.
+//! A scan that runs: its code, and its place in it.
 
 ghost use Rattle.std.specs.Prelude.{◌≡◌, ◌+◌, ◌<◌, ◌≤◌, drop, length, ◌↔◌, IsTrue, Some};
 ghost use Rattle.sw_verify.specs.Course.{source_at};
@@ -88,7 +88,7 @@ impl Scan {
         next_move(self.code.steps(), &self.at)
     }
 
-    /// Goes past the item at which the scan stands.
+    /// Goes past the item at the scan's place.
     #[inline(always)]
     pub(crate) fn go_past(&mut self)
         requires { self.old.index < length self.old.course.items }
@@ -98,7 +98,7 @@ impl Scan {
         self.index += 1;
     }
 
-    /// Whether the scan takes the happening, being number so many.
+    /// Whether the scan, of this number, takes the happening.
     #[inline(always)]
     pub(crate) fn takes(&self, number: u64, happening: Happening) -> bool
         ensures { IsTrue result ↔ TakesIf self.now.course (ticket_of number self.now) (awaits self.now) happening }
@@ -128,7 +128,7 @@ impl Scan {
         }
     }
 
-    /// Whether the scan, being number so many, awaits the return of the slot's meter under the ticket.
+    /// Whether the scan, of this number, awaits the return of the slot's meter under the ticket.
     #[inline(always)]
     pub(crate) fn takes_return(&self, number: u64, slot: u8, ticket: Ticket) -> bool
         ensures { IsTrue result ↔ AwaitsReturn number self.now slot ticket }

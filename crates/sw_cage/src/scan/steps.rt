@@ -34,7 +34,7 @@ pub(crate) enum Move {
     Close(Position),
 }
 
-/// What the step awaits at which the scan stands; nothing where it moves relays, or at the end.
+/// What the step at the scan's place awaits; nothing where it moves relays, or at the end.
 #[inline(always)]
 pub(crate) fn awaited(steps: &[Step], at: &ScanPlace) -> Option<Awaited>
     requires near { IsNear steps.now 0 at.now.step }
@@ -49,7 +49,7 @@ pub(crate) fn awaited(steps: &[Step], at: &ScanPlace) -> Option<Awaited>
     }
 }
 
-/// What the step opens or closes at which the scan stands; nothing where it awaits something, or at the end.
+/// What the step at the scan's place opens or closes; nothing where it awaits something, or at the end.
 #[inline(always)]
 pub(crate) fn next_move(steps: &[Step], at: &ScanPlace) -> Option<Move>
     requires near { IsNear steps.now 0 at.now.step }
@@ -107,7 +107,7 @@ fn settle(steps: &[Step], at: &mut ScanPlace)
     }
 }
 
-/// Goes past the step, if it only counts, and tells whether it does.
+/// Goes past the step, if it only counts, and returns whether it does.
 #[inline(always)]
 fn has_counted(steps: &[Step], at: &mut ScanPlace) -> bool
     requires range { AllByRecursion IsStep steps.now }

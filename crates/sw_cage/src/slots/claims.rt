@@ -12,10 +12,11 @@ use std::marker::Model;
 use sw_base::Chan;
 use sw_card::{Meter, Relay};
 
-/// As many as a card can tell apart: a group is one byte.
+/// As many as a card can name: a group is one byte.
 const GROUPS: usize = 256;
 
-/// By group the channel that claims it, if any. What group 0 has is never asked: a channel of it is of no group.
+/// By group the channel that claims it, if any. The cage never reads the claim of group 0: a channel of it is in no
+/// group.
 #[derive(Clone, Copy, Drop)]
 pub(super) struct Claims {
     by_group: [Option<Chan>; GROUPS],
@@ -40,7 +41,7 @@ impl Claims {
         }
     }
 
-    /// Lets the channel have the group, whichever had it.
+    /// Gives the channel the group, from any channel that had it.
     pub(super) fn hold(&mut self, group: u8, chan: Chan)
         ensures held { self.new ≡ slice_set self.old group (Some chan) }
         ensures room { group < length self.old }
@@ -48,7 +49,7 @@ impl Claims {
         self.by_group[group as usize] = Some(chan);
     }
 
-    /// Lets no channel have the group.
+    /// Takes the group from any channel that has it.
     pub(super) fn release(&mut self, group: u8)
         ensures released { self.new ≡ slice_set self.old group None }
         ensures room { group < length self.old }
@@ -56,7 +57,7 @@ impl Claims {
         self.by_group[group as usize] = None;
     }
 
-    /// Lets the channel claim its group, unless another channel has it.
+    /// Claims the channel's group for it, unless another channel has it.
     pub(super) fn claim(&mut self, group: u8, chan: Chan) -> bool
         ensures free { result ≡ true → group ≢ 0 → (other : Channel)
             → claim_at self.old group ≡ Some other → other ≡ chan }

@@ -10,7 +10,7 @@ ghost use Rattle.sw_base.specs.Layout.{Channel, slot_at, is_present, group_of, I
 ghost use Rattle.sw_card.specs.Account.{closed_at, is_meter, of_meter};
 ghost use Rattle.sw_cage.specs.Accounts.{accounts_of, layout_of, is_closed, AreSafe, with_chan, option_rest};
 ghost use Rattle.sw_cage.specs.Accounts.{all_open, IsChannelFault};
-ghost use Rattle.sw_cage.specs.Cards.{KeepsOthers, meters_of};
+ghost use Rattle.sw_cage.specs.Cards.{KeepsOthers, meters_of, all_sure};
 ghost use Rattle.sw_cage.specs.Change.{Sets, IsDisturbed};
 ghost use Rattle.sw_cage.specs.Install.{CanInstall, SlotsRefuseInstall, SlotsRefuseEject};
 ghost use Rattle.sw_cage.specs.Close.{closed_with, HasClash, all_present, CanClose, RefusesClose};
@@ -198,6 +198,13 @@ impl<R: Relay, M: Meter> Slots<R, M> {
         self.claims = Claims::new();
     }
 
+    /// Whether every card is sure of its relays.
+    pub(crate) fn is_sure(&self) -> bool
+        ensures { result ≡ all_sure R.sure self.now }
+    {
+        self.slots.iter().all(|slot| slot::is_sure_in(slot))
+    }
+
     /// Whether the cage has the channel.
     pub(crate) fn is_present(&self, chan: Chan) -> bool
         ensures { result ≡ is_present (layout_of (accounts_of self.now)) chan }
@@ -262,7 +269,7 @@ impl<R: Relay, M: Meter> Slots<R, M> {
         Ok(())
     }
 
-    /// Lets each channel of the list claim its group, unless another channel has it.
+    /// Claims for each channel of the list its group, unless another channel has it.
     fn claim_listed(&self, chans: &[Chan], claims: &mut Claims) -> bool
         requires present { all_present (layout_of (accounts_of self.now)) chans.now ≡ true }
         requires held { IndexesClaims (layout_of (accounts_of self.now))
@@ -393,7 +400,7 @@ impl<R: Relay, M: Meter> Slots<R, M> {
         self.claims.keep_closed(&self.slots);
     }
 
-    /// What the slot holds, as a layout tells it.
+    /// What the slot holds, as a layout has it.
     pub(crate) fn contents(&self, alloc: Global, slot: u8) -> Result<Slot, AllocError>
         requires { (1 ≤ slot) × (slot ≤ most_slots) }
         ensures { IfOk result (λ contents. contents ≡ slot_at (layout_of (accounts_of self.now)) slot) }
@@ -401,7 +408,7 @@ impl<R: Relay, M: Meter> Slots<R, M> {
         slot::contents_in(alloc, &self.slots[slot as usize - 1])
     }
 
-    /// Whether the slot holds what the layout's slot tells.
+    /// Whether the slot holds what the layout's slot says.
     pub(crate) fn is_as(&self, slot: u8, contents: &Slot) -> bool
         requires { (1 ≤ slot) × (slot ≤ most_slots) }
         ensures { IsTrue result ↔ (contents.now ≡ slot_at (layout_of (accounts_of self.now)) slot) }
@@ -415,7 +422,7 @@ impl<R: Relay, M: Meter> Slots<R, M> {
         ensures range { (c : Channel) → is_closed (accounts_of self.now) c ≡ true
             → (1 ≤ c.0) × (c.0 ≤ most_slots) × (1 ≤ c.1) × (c.1 ≤ most_channels) }
     {
-        // Reading a field tells the proof what holds of every `Slots`.
+        // Reading a field gives the proof what holds of every `Slots`.
         let _ = &self.slots;
     }
 }

@@ -1,4 +1,4 @@
-//! What is done with one slot and its card.
+//! The calls on one slot and its card.
 
 ghost use Rattle.std.specs.Prelude.{◌≡◌, ℕ, ◌≤◌, length, true, false, None, Some, OnOk, OnErr, IfOk, ◌↔◌, IsTrue};
 ghost use Rattle.std.proofs.Common.{inr};
@@ -8,7 +8,7 @@ ghost use Rattle.sw_card.specs.Account.{closed_at, is_meter, of_meter, at_rest};
 ghost use Rattle.sw_cage.specs.Accounts.{accounts_of, option_account, slot_contents, option_closed, option_set};
 ghost use Rattle.sw_cage.specs.Accounts.{option_rest, OptionWellFormed};
 ghost use Rattle.sw_cage.specs.Accounts.{all_open, is_closed, IsSlotFault};
-ghost use Rattle.sw_cage.specs.Cards.{meter_only, meters_of};
+ghost use Rattle.sw_cage.specs.Cards.{meter_only, meters_of, option_sure};
 ghost use Rattle.sw_cage.specs.Install.{IsUnfit};
 ghost use Rattle.sw_cage.specs.Masks.{IsSlotMask};
 
@@ -212,6 +212,16 @@ pub(super) fn present_in<R: Relay, M: Meter>(slot: &CageSlot<R, M>, ch: u8) -> b
     }
 }
 
+/// Whether the card in the slot is sure of its relays; an empty slot has none.
+pub(super) fn is_sure_in<R: Relay, M: Meter>(slot: &CageSlot<R, M>) -> bool
+    ensures { result ≡ option_sure R.sure slot.now }
+{
+    match &slot.card {
+        Some(card) => card.is_sure(),
+        None => true,
+    }
+}
+
 /// Whether the channel is closed.
 pub(super) fn closed_in<R: Relay, M: Meter>(slots: &[CageSlot<R, M>], chan: Chan) -> bool
     requires { length slots.now ≡ most_slots }
@@ -250,7 +260,7 @@ fn groups<R: Relay, M: Meter>(alloc: Global, card: &Card<R, M>) -> Result<Vec<u8
     Ok(groups)
 }
 
-/// What the slot holds, as a layout tells it.
+/// What the slot holds, as a layout has it.
 pub(super) fn contents_in<R: Relay, M: Meter>(
     alloc: Global,
     slot: &CageSlot<R, M>,
@@ -282,7 +292,7 @@ fn has_groups<R: Relay, M: Meter>(card: &Card<R, M>, groups: &[u8]) -> bool
     true
 }
 
-/// Whether the slot holds what the layout's slot tells.
+/// Whether the slot holds what the layout's slot says.
 pub(super) fn is_as_in<R: Relay, M: Meter>(slot: &CageSlot<R, M>, contents: &Slot) -> bool
     ensures { IsTrue result ↔ (contents.now ≡ slot_contents (option_account slot.now)) }
 {

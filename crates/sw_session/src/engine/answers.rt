@@ -10,7 +10,7 @@ use std::mem;
 use sw_base::Sequence;
 use sw_hislip::{Kind, LONGEST_PAYLOAD, Message};
 
-/// The bytes of a header, which count into the size that a client tells.
+/// The bytes of a header, which count into the size that a client sends.
 const HEADER: u64 = 16;
 
 /// How many bytes of an answer go into one payload, for a client that takes messages of this size.
@@ -21,8 +21,8 @@ pub fn room_of(size: u64) -> usize
     size.min(LONGEST_PAYLOAD).saturating_sub(HEADER).max(1) as usize
 }
 
-/// The parts of an answer that are still to be said. The answer is kept as it is, and each part is made when it is
-/// asked for, so that all of them never stand in memory together. Contracts see their messages.
+/// The parts of an answer that are still to be said. It keeps the answer as it is and makes each part when asked for
+/// it, so that all of them are never in memory together. Contracts see their messages.
 #[derive(Debug, Drop)]
 pub struct Parts {
     id: u32,
@@ -48,7 +48,7 @@ impl Model for Parts {
 }
 
 impl Parts {
-    /// All parts of an answer under this identifier, of so many bytes each, but for the last, which may have fewer.
+    /// All parts of an answer under this identifier, of `room` bytes each, but for the last, which may have fewer.
     pub fn of(id: u32, room: usize, answer: Vec<u8>) -> Self
         requires { 0 < room }
         ensures { result ≡ parts_of room id answer.items }

@@ -26,7 +26,7 @@ use sw_hislip::{Kind, Message};
 #[derive(Debug, Drop)]
 pub struct AsyncSession {
     sid: Sid,
-    /// Up to which count service requests were told.
+    /// How many service requests there were when the channel sent the last one.
     told: u64,
     /// Up to which count they were asked for.
     polled: u64,
@@ -41,7 +41,7 @@ impl Model for AsyncSession {
 }
 
 impl AsyncSession {
-    /// Whose second channel it is.
+    /// The session whose second channel it is.
     pub fn sid(&self) -> Sid
         ensures { result ≡ self.now.sid }
     {
@@ -144,7 +144,7 @@ impl AsyncSession {
         Reply::Says(plain(alloc, Kind::AsyncStatusResponse, byte, 0))
     }
 
-    /// Tells of service requests that were not told yet.
+    /// Says service requests that it has not said yet.
     pub fn notice(&mut self, alloc: Global, view: View) -> Option<Message>
         ensures told { result ≡ notice_of self.old view }
         ensures counted { self.new ≡ noticed self.old view }
@@ -165,7 +165,7 @@ fn is_second(kind: Kind) -> bool
     matches!(kind, Kind::AsyncInitialize)
 }
 
-/// Notes that no message is available where a control code tells that the client has taken the last answer whole.
+/// Notes that no message is available where a control code says that the client has taken the last answer whole.
 fn note_delivery<D: Desk>(sid: Sid, control: u8, desk: &mut D)
     ensures { Leads D.passes desk.old (delivered sid control) desk.new }
 {

@@ -28,7 +28,7 @@ pub fn lock<D: Desk>(alloc: Global, sid: Sid, message: Message, desk: &mut D) ->
     }
 }
 
-/// Asks for a lock by this key within so many milliseconds.
+/// Asks for a lock by this key within `limit_ms` milliseconds.
 fn ask_lock<D: Desk>(
     alloc: Global,
     sid: Sid,
@@ -109,7 +109,7 @@ fn lock_reply(alloc: Global, code: Option<u8>) -> Reply
     }
 }
 
-/// The response that tells who holds locks.
+/// The response to AsyncLockInfo: whether a session holds the exclusive lock, and how many sessions hold a lock.
 fn info_reply(alloc: Global, answer: SessionAnswer) -> Reply
     ensures { reply_step Asynchronous result ≡ info_reply answer }
 {

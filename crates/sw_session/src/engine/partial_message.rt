@@ -8,7 +8,7 @@ use crate::engine::requests::SyncRequest;
 use std::alloc::AllocError;
 use sw_base::{KEPT_BYTES, Sequence};
 
-/// What has come of a program message that isn't ended.
+/// The part that has come of a program message without its end.
 #[derive(Debug, Drop)]
 pub enum PartialMessage {
     /// No part of it.
@@ -19,7 +19,7 @@ pub enum PartialMessage {
     Lost,
 }
 
-/// The front with one more part, of which no more is taken than there is room for. Want of memory loses the whole
+/// The front with one more part. It takes no more of that than there is room for. Want of memory loses the whole
 /// message.
 #[inline(always)]
 pub fn with_part(partial: PartialMessage, part: Sequence<u8>) -> Result<PartialMessage, AllocError>

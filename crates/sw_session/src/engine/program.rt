@@ -35,7 +35,7 @@ use sw_hislip::{Kind, Message};
 pub struct SyncSession {
     sid: Sid,
     talker: Talker,
-    /// Whether the second channel was seen to stand.
+    /// Whether the session was seen to have its second channel.
     attached: bool,
     partial: PartialMessage,
 }
@@ -64,7 +64,7 @@ impl SyncSession {
         }
     }
 
-    /// Whose channel it is.
+    /// The session whose channel it is.
     pub fn sid(&self) -> Sid
         ensures { result ≡ self.now.sid }
     {
@@ -120,7 +120,7 @@ impl SyncSession {
         }
     }
 
-    /// Answers a DeviceClearComplete; what came of a program message is dropped.
+    /// Answers a DeviceClearComplete, and drops the part that has come of a program message.
     fn complete<D: Desk>(&mut self, alloc: Global, desk: &mut D) -> Reply
         ensures asked { LedBy D.passes desk.old desk.new (λ asked.
             Completes self.old.sid asked (reply_step Synchronous result)) }
@@ -134,7 +134,7 @@ impl SyncSession {
         reply
     }
 
-    /// Serves a message of a program once the second channel stands.
+    /// Serves a message of a program once the session has its second channel.
     fn program<D: Desk>(
         &mut self,
         alloc: Global,
@@ -238,7 +238,7 @@ impl SyncSession {
         Ok(told(said, false))
     }
 
-    /// Gives a trigger, and drops what came of a program message.
+    /// Gives a trigger, and drops the part that has come of a program message.
     fn trigger<D: Desk>(&mut self, said: Vec<Sent>, desk: &mut D) -> Step
         ensures ok { LedBy D.passes desk.old desk.new (λ asked.
             SaysMore said.items result (λ own. Triggers (is_within self.old.partial) self.old.sid asked own)) }
@@ -272,8 +272,8 @@ impl SyncSession {
         }
     }
 
-    /// Talks over a program message, and says its answer in parts of the client's size. The next answer will stand in
-    /// the message's memory.
+    /// Talks over a program message, and says its answer in parts of the client's size. The next answer reuses the
+    /// message's memory.
     fn converse<D: Desk>(
         &mut self,
         id: u32,
@@ -293,8 +293,8 @@ impl SyncSession {
     }
 }
 
-/// Room for what may have to be said before a message of a program is served: none where the second channel was seen to
-/// stand, and the client has taken the last answer.
+/// Room for what may have to be said before a message of a program is served: none where the session was seen to have
+/// its second channel, and the client has taken the last answer.
 fn room_for(alloc: Global, attached: bool, control: u8) -> Result<Vec<Sent>, AllocError>
     ensures empty { IfOk result (λ room. room.items ≡ []) }
     ensures fresh { attached ≡ false → IfOk result (λ room. 2 ≤ vec_capacity room) }
@@ -338,7 +338,7 @@ fn interruption(alloc: Global, room: Vec<Sent>, id: u32, delivery: Delivery) -> 
     said
 }
 
-/// An answer, cut to the size that was told; where none was, the channel ends. This was said before.
+/// What was said before, and an answer, cut to the size that the desk answers. Where it answers none, the channel ends.
 fn respond(id: u32, bytes: Vec<u8>, size: SessionAnswer, said: Vec<Sent>) -> Step
     ensures { SaysMore said.items result (λ own. Answers id bytes.items size own) }
 {

@@ -1,4 +1,4 @@
-//! Faults that are told to the client.
+//! Faults that the channel reports to the client.
 
 ghost use Rattle.std.specs.Prelude.{◌≡◌};
 ghost use Rattle.sw_session.specs.EngineMessages.{error_number, fatal_number, error_message, fatal_of};
@@ -53,14 +53,14 @@ impl FatalCode {
     }
 }
 
-/// The message that tells of this fault, after which the channel goes on.
+/// The message that reports this fault, after which the channel continues.
 pub fn error(alloc: Global, code: ErrorCode) -> Message
     ensures { result ≡ error_message code }
 {
     plain(alloc, Kind::Error, code.number(), 0)
 }
 
-/// The message that tells of this fault, and ends the session.
+/// The message that reports this fault, and ends the session.
 pub fn fatal(alloc: Global, code: FatalCode) -> Message
     ensures { result ≡ fatal_of code }
 {

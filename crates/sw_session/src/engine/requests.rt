@@ -36,7 +36,7 @@ pub enum AsyncRequest {
     Size,
     /// A lock, or its release.
     Lock,
-    /// Who holds locks.
+    /// Whether a session holds the exclusive lock, and how many hold a lock.
     LockInfo,
     /// Remote or local control.
     RemoteLocal,

@@ -1,4 +1,4 @@
-//! Responses to the client: messages that only tell something.
+//! Responses to the client: messages that only report something.
 
 ghost use Rattle.std.specs.Prelude.{◌≡◌, IfOk};
 ghost use Rattle.sw_session.specs.EngineMessages.{plain, size_told, size_response, tells_delivery, status_byte};
@@ -26,7 +26,7 @@ pub fn plain(alloc: Global, kind: Kind, control: u8, parameter: u32) -> Message
     }
 }
 
-/// The size that a client tells in a payload: its first eight bytes, or a shorter number where there are fewer.
+/// The size that a client sends in a payload: its first eight bytes, or a shorter number where there are fewer.
 pub fn size_told(payload: &[u8]) -> u64
     ensures { result ≡ size_told payload.now }
 {
@@ -36,7 +36,7 @@ pub fn size_told(payload: &[u8]) -> u64
     u64::from_be_bytes(bytes)
 }
 
-/// Tells the size of the payloads that are taken.
+/// Says the size of the payloads that the instrument takes.
 pub fn size_response(alloc: Global) -> Result<Message, AllocError>
     ensures { IfOk result (λ m. m ≡ size_response) }
 {
@@ -49,7 +49,7 @@ pub fn size_response(alloc: Global) -> Result<Message, AllocError>
     })
 }
 
-/// Whether a control code tells that the client has taken the last answer whole.
+/// Whether a control code says that the client has taken the last answer whole.
 pub fn tells_delivery(control: u8) -> bool
     ensures { result ≡ tells_delivery control }
 {
@@ -65,7 +65,7 @@ pub fn status_byte(byte: u8, mav: bool, rqs: bool) -> u8
     byte | available | requests
 }
 
-/// Tells who holds locks.
+/// Says whether a session holds the exclusive lock, and how many sessions hold a lock.
 pub fn lock_info(alloc: Global, exclusive: bool, holders: u8) -> Message
     ensures { result ≡ lock_info exclusive holders }
 {

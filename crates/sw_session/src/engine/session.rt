@@ -20,7 +20,7 @@ use std::marker::Model;
 use sw_core::Sid;
 use sw_hislip::{Kind, Message};
 
-/// How a channel stands.
+/// The state of a channel.
 #[derive(Drop)]
 pub enum State {
     /// No session is begun on it.
@@ -31,8 +31,8 @@ pub enum State {
     Attached(AsyncSession),
 }
 
-/// One channel of a HiSLIP session: to each message it asks a desk, and tells what is said and whether the channel ends
-/// (IVI-6.1 HiSLIP, synchronized mode). Contracts see an `EngineStanding`.
+/// One channel of a HiSLIP session: for each message it asks a desk, and gives what is said and whether the channel
+/// ends (IVI-6.1 HiSLIP, synchronized mode). Contracts see an `EngineStanding`.
 #[derive(Drop)]
 pub struct Engine {
     alloc: Global,
@@ -60,8 +60,8 @@ impl Engine {
         }
     }
 
-    /// Serves a message. Where a growth was refused, it is dropped, and so is what came of a program message; from then
-    /// on nothing is asked, and want of memory is answered again.
+    /// Serves a message. Where a growth was refused, it drops the message, and the part that has come of a program
+    /// message. From then on it asks nothing, and answers want of memory again.
     pub fn take<D: Desk>(&mut self, message: Message, desk: &mut D) -> Result<Step, AllocError>
         ensures ok { IfOk result (λ step. LedBy D.passes desk.old desk.new (λ asked.
             TakesMessage self.old.state message asked step self.new.state)) }
@@ -91,7 +91,7 @@ impl Engine {
         error(self.alloc, ErrorCode::TooLarge)
     }
 
-    /// Tells of service requests that were not told yet: AsyncServiceRequest, on the second channel alone.
+    /// Says service requests that it has not said yet: AsyncServiceRequest, on the second channel alone.
     pub fn notice(&mut self, view: View) -> Option<Message>
         ensures told { result ≡ notice_from self.old.state view }
         ensures state { self.new.state ≡ noticed_from self.old.state view }
@@ -151,7 +151,7 @@ impl State {
     }
 }
 
-/// What is said to the first message, and how the channel stands then.
+/// What is said to the first message, and the channel's state after it.
 #[derive(Drop)]
 struct Opened {
     step: Step,
@@ -188,7 +188,7 @@ fn join<D: Desk>(alloc: Global, room: Vec<Sent>, message: Message, desk: &mut D)
     joined(alloc, room, parameter, session)
 }
 
-/// How the synchronous channel stands once a session was asked for.
+/// The synchronous channel's state once a session was asked for, and what is said.
 fn joined(alloc: Global, room: Vec<Sent>, parameter: u32, session: Result<Sid, Reply>) -> Opened
     requires empty { room.items ≡ [] }
     requires room { 1 ≤ vec_capacity room }
@@ -220,7 +220,7 @@ fn attach<D: Desk>(alloc: Global, room: Vec<Sent>, message: Message, desk: &mut 
     attached(alloc, room, session)
 }
 
-/// How the asynchronous channel stands once it was asked for.
+/// The asynchronous channel's state once it was asked for, and what is said.
 fn attached(alloc: Global, room: Vec<Sent>, session: Result<AsyncSession, Reply>) -> Opened
     requires empty { room.items ≡ [] }
     requires room { 1 ≤ vec_capacity room }

@@ -30,11 +30,11 @@ pub struct Sent {
 /// What follows the messages that are said.
 #[derive(Debug, Drop)]
 enum Rest {
-    /// Nothing, and the channel goes on.
+    /// Nothing, and the channel continues.
     Nothing,
     /// Nothing, and the channel ends.
     End,
-    /// The parts of an answer, and the channel goes on.
+    /// The parts of an answer, and the channel continues.
     Answer(Parts),
 }
 
@@ -115,9 +115,9 @@ impl Step {
 /// What is said to a message, where it is one message at most.
 #[derive(Debug, Drop)]
 pub enum Reply {
-    /// This message, and the channel goes on.
+    /// This message, and the channel continues.
     Says(Message),
-    /// Nothing, and the channel goes on.
+    /// Nothing, and the channel continues.
     Silence,
     /// This fault, and the channel ends.
     Fails(FatalCode),
@@ -125,7 +125,7 @@ pub enum Reply {
     Leaves,
 }
 
-/// What a reply comes to on this channel, in a list that has room for it.
+/// The step for a reply on this channel, in a list that has room for it.
 pub fn step_of(alloc: Global, channel: Channel, room: Vec<Sent>, reply: Reply) -> Step
     requires empty { room.items ≡ [] }
     requires room { 1 ≤ vec_capacity room }

@@ -1,5 +1,5 @@
-//! What the synchronous channel asks of a desk beside program messages: its session, whether the second channel stands,
-//! what became of the last answer, a trigger, the end of a device clear.
+//! What the synchronous channel asks of a desk beside program messages: its session, whether that has its second
+//! channel, what became of the last answer, a trigger, the end of a device clear.
 
 ghost use Rattle.std.specs.Prelude.{◌≡◌, ℕ, true, false, [], IfSome};
 ghost use Rattle.sw_session.specs.EngineMessages.{tells_delivery};
@@ -87,8 +87,8 @@ fn joined(answer: SessionAnswer) -> Result<Sid, Reply>
     session
 }
 
-/// Asks whether the session's second channel stands, unless it was seen to. Gives what is said where a message can't be
-/// served; the channel ends with it.
+/// Asks whether the session has its second channel, unless it was seen to have it. Where a message can't be served it
+/// gives what is said, with which the channel ends.
 pub fn attend<D: Desk>(sid: Sid, attached: bool, desk: &mut D) -> Option<Reply>
     ensures led { Led D.passes desk.old desk.new (λ t rest. Attends attached sid t (gate_step result) rest) }
     ensures fresh { IfSome result (λ _. attached ≡ false) }
@@ -101,7 +101,7 @@ pub fn attend<D: Desk>(sid: Sid, attached: bool, desk: &mut D) -> Option<Reply>
     attended(answer)
 }
 
-/// What is said where the second channel doesn't stand.
+/// What is said where the session doesn't have its second channel.
 fn attended(answer: SessionAnswer) -> Option<Reply>
     ensures step { gate_step result ≡ attended answer }
     ensures ends { IfSome result (λ reply. (reply_step Synchronous reply).ends ≡ true) }
@@ -115,8 +115,8 @@ fn attended(answer: SessionAnswer) -> Option<Reply>
     gate
 }
 
-/// Looks at the last answer before a message with this control code is served: one that is available and wasn't taken
-/// is dropped, with error -410.
+/// Looks at the last answer before a message with this control code is served. It drops an answer that is available and
+/// wasn't taken, with error -410.
 pub fn deliver<D: Desk>(sid: Sid, control: u8, desk: &mut D) -> Delivery
     ensures delivers { (id : ℕ) → Led D.passes desk.old desk.new (λ t rest.
         Delivers sid control id t (delivery_step id result) rest) }
@@ -146,7 +146,7 @@ fn interrupt<D: Desk>(sid: Sid, desk: &mut D) -> Delivery
     }
 }
 
-/// Gives a trigger; within a program message that is an error. Nothing is said; tells whether the channel ends.
+/// Gives a trigger; within a program message that is an error. It says nothing, and returns whether the channel ends.
 pub fn trigger<D: Desk>(sid: Sid, within: bool, desk: &mut D) -> bool
     ensures { LedBy D.passes desk.old desk.new (λ asked.
         Triggers within sid asked (record { out = []; ends = result })) }

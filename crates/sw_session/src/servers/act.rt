@@ -16,11 +16,11 @@ pub enum Act {
     Skips(Kind),
     /// To answer a header that doesn't begin with `HS`.
     Refuses,
-    /// To tell of service requests: before each message, and where a time limit ended a read.
+    /// To say service requests: before each message, and where a time limit ended a read.
     Notices,
 }
 
-/// How a channel goes on.
+/// How a channel continues.
 #[derive(Clone, Copy, Debug, PartialEq, Eq)]
 pub enum AfterStep {
     Goes,
@@ -46,7 +46,7 @@ pub fn is_refused(act: &Act) -> bool
     matches!(act, Act::Refuses)
 }
 
-/// How the channel goes on after a step.
+/// How the channel continues after a step.
 pub fn after_step(is_refused: bool, step: &Step) -> AfterStep
     ensures after { result ≡ after_step is_refused step.now }
     ensures judged { Judges is_refused result }

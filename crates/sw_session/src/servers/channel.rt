@@ -18,9 +18,9 @@ use sw_core::SessionAsk;
 use sw_hislip::Decoder;
 
 /// Serves one channel of a session over its connection (IVI-6.1 HiSLIP, synchronized mode): reads until the end of
-/// input, the end of the session or a fault, for so many reads at most, and leaves the session then. What is said on
-/// the other channel goes to the side writer. On the asynchronous channel service requests are told before each
-/// message, and where a time limit ended a read.
+/// input, the end of the session or a fault, for at most `turns` reads, and leaves the session then. What is said on
+/// the other channel goes to the side writer. The asynchronous channel sends service requests before each message, and
+/// where a time limit ended a read.
 pub fn serve_channel<R: Source, W: Sink, S: Sink, D: Desk>(
     alloc: Global,
     channel: Channel,
@@ -49,6 +49,9 @@ pub fn serve_channel<R: Source, W: Sink, S: Sink, D: Desk>(
     };
     let result = server.run(reader, turns);
     server.leave();
+    drop(engine);
+    drop(decoder);
+    drop(rooms);
     result
 }
 

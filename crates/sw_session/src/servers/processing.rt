@@ -12,7 +12,7 @@ use crate::servers::speaking::{handle, second_session};
 use crate::servers::writing::Sink;
 
 impl<W: Sink, S: Sink, D: Desk> ChannelServer<'_, '_, '_, '_, W, S, D> {
-    /// Asks the engine for an act, and hands over what it says.
+    /// Asks the engine for an act, and gives what it says to the writers.
     fn process(&mut self, act: Act) -> Result<AfterStep, ServeFault>
         ensures processed { Processes (voice_of D.passes self.old) act (stands W.Sink S.Sink self.old)
             (stands W.Sink S.Sink self.new) result }
@@ -32,7 +32,7 @@ impl<W: Sink, S: Sink, D: Desk> ChannelServer<'_, '_, '_, '_, W, S, D> {
         }
     }
 
-    /// Tells of service requests, for which a second channel alone asks.
+    /// Says service requests, for which a second channel alone asks.
     fn notice(&mut self) -> Result<AfterStep, ServeFault>
         ensures processed { Processes (voice_of D.passes self.old) Act.Notices (stands W.Sink S.Sink self.old)
             (stands W.Sink S.Sink self.new) result }
@@ -47,7 +47,7 @@ impl<W: Sink, S: Sink, D: Desk> ChannelServer<'_, '_, '_, '_, W, S, D> {
         }
     }
 
-    /// Goes through what the wire has told: before a message is taken, service requests are told.
+    /// Processes an input from the wire. Before it takes a message, it sends service requests.
     #[inline(always)]
     pub fn attend(&mut self, input: Act) -> Result<AfterStep, ServeFault>
         ensures processed { ProcessesEach (voice_of D.passes self.old) (acts_for input) (stands W.Sink S.Sink self.old)

@@ -68,7 +68,7 @@ impl Rooms {
         self.was_full = bytes >= READ_BYTES;
     }
 
-    /// Takes the room for the bytes of a message that is said, whatever stands in it.
+    /// Takes the room for the bytes of a message that is said. It may have other bytes in it.
     pub fn take(&mut self) -> Vec<u8> {
         replace(&mut self.said, Vec::new(self.alloc))
     }

@@ -64,7 +64,7 @@ impl<W: Sink, S: Sink, D: Desk> ChannelServer<'_, '_, '_, '_, W, S, D> {
         }
     }
 
-    /// Hands over what is said, one message after another, header and payload of each together.
+    /// Gives what is said to the writers, one message after another, header and payload of each together.
     pub fn hand_all(&mut self, said: Step) -> Result<(), ServeFault>
         ensures hands { Hands (voice_of D.passes self.old) (stands W.Sink S.Sink self.old)
             (stands W.Sink S.Sink self.new) said.out result }

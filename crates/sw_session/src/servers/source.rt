@@ -43,7 +43,7 @@ pub trait Source {
 }
 
 /// Any reader is a source: an error of kind `TimedOut` or `WouldBlock` is the end of a time limit, and an interrupted
-/// read is asked again. It tells nothing of why a read fails, nor how many of them a time limit ended.
+/// read is repeated. It doesn't say why a read fails, nor how many of them a time limit ended.
 impl<R: Read> Source for R {
     ghost remaining = { λ r. R.remaining r };
 
@@ -69,7 +69,7 @@ fn read_on<R: Read>(reader: &mut R, buffer: &mut [u8]) -> Result<usize, Unread>
     Err(Unread::Failed)
 }
 
-/// What a read comes to; none where it was interrupted.
+/// The outcome of a read. None where it was interrupted.
 fn read_of(read: io::Result<usize>) -> Option<Result<usize, Unread>>
     ensures bytes { GivesBytes read result }
     ensures kind { IfErr read (λ e. ComesTo ErrorKind.Interrupted ErrorKind.TimedOut ErrorKind.WouldBlock (error_kind e)

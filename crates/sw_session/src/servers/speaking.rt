@@ -13,7 +13,7 @@ use std::alloc::{AllocError, Global};
 use sw_core::Sid;
 use sw_hislip::{Kind, Message};
 
-/// Asks an engine for an act, and gives what comes of it.
+/// Asks an engine for an act, and gives the step.
 pub fn handle<D: Desk>(
     alloc: Global,
     act: Act,
@@ -73,7 +73,7 @@ fn told(notice: Option<Message>) -> Reply
     }
 }
 
-/// Tells of service requests that were not told yet: on the second channel of a session alone.
+/// Says service requests that were not said yet: on the second channel of a session alone.
 fn look<D: Desk>(alloc: Global, engine: &mut Engine, desk: &mut D) -> Result<Step, AllocError>
     ensures ok { IfOk result (λ step. LedBy D.passes desk.old desk.new (λ asked.
         Looks engine.old.state asked step engine.new.state)) }

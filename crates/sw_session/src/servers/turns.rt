@@ -75,7 +75,7 @@ fn conclude(processed: Result<AfterStep, ServeFault>) -> Result<Next, ServeFault
     }
 }
 
-/// What the wire tells next; none where no message is whole.
+/// The next input from the wire. None where no message is whole.
 fn next_input(
     alloc: Global,
     rooms: &mut Rooms,
@@ -93,7 +93,7 @@ fn next_input(
 }
 
 impl<W: Sink, S: Sink, D: Desk> ChannelServer<'_, '_, '_, '_, W, S, D> {
-    /// Goes through all whole messages, or those up to one that ends the channel.
+    /// Processes all whole messages, or those up to one that ends the channel.
     fn process_all(&mut self) -> Result<AfterStep, ServeFault>
         ensures processed { HearsAll (voice_of D.passes self.old) self.old.decoder.now.pending
             self.new.decoder.now.pending (stands W.Sink S.Sink self.old) (stands W.Sink S.Sink self.new) result }
@@ -131,7 +131,7 @@ impl<W: Sink, S: Sink, D: Desk> ChannelServer<'_, '_, '_, '_, W, S, D> {
         }
     }
 
-    /// Takes so many turns at most, from the first byte on.
+    /// Takes at most `turns` turns, from the first byte on.
     pub fn run<R: Source>(&mut self, reader: &mut R, turns: u64) -> Result<(), ServeFault>
         requires { self.old.decoder.now.pending ≡ nothing_fed }
         ensures runs { RunsChannel (voice_of D.passes self.old) turns

@@ -21,13 +21,13 @@ pub trait Sink {
     /// A write failed, between these states.
     ghost failed: { Self → Self → Type 0 };
 
-    /// Writes all of the bytes and hands them on, or a front part of them where that fails.
+    /// Writes all of the bytes and flushes, or writes a front part of them where that fails.
     fn deliver(&mut self, bytes: &[u8]) -> Result<(), Unwritten>
         ensures wrote { Wrote result (contents self.old) (contents self.new) bytes.now }
         ensures failed { OnErr result (failed self.old self.new) };
 }
 
-/// Any writer is a sink. It tells nothing of why a write fails.
+/// Any writer is a sink. It doesn't say why a write fails.
 impl<W: Write> Sink for W {
     ghost contents = { λ w. W.contents w };
 
@@ -38,7 +38,7 @@ impl<W: Write> Sink for W {
     }
 }
 
-/// Writes all of the bytes and hands them on, or a front part of them where that fails.
+/// Writes all of the bytes and flushes, or writes a front part of them where that fails.
 pub fn write_all<W: Write>(writer: &mut W, bytes: &[u8]) -> Result<(), Unwritten>
     ensures { Wrote result (W.contents writer.old) (W.contents writer.new) bytes.now }
 {
@@ -55,8 +55,8 @@ pub fn write_all<W: Write>(writer: &mut W, bytes: &[u8]) -> Result<(), Unwritten
     Err(Unwritten)
 }
 
-/// Writes a front part of the bytes, of which it returns the length: none where the write was interrupted. A writer
-/// that takes nothing is at fault.
+/// Writes a front part of the bytes, and returns its length: none where the write was interrupted. A writer that takes
+/// nothing is at fault.
 fn write_part<W: Write>(writer: &mut W, bytes: &[u8]) -> Result<usize, Unwritten>
     ensures bound { WritesAtMost result bytes.now }
     ensures bytes { WriteAppends (W.contents writer.old) (W.contents writer.new) result bytes.now }
@@ -71,7 +71,7 @@ fn write_part<W: Write>(writer: &mut W, bytes: &[u8]) -> Result<usize, Unwritten
     }
 }
 
-/// Hands on what the writer keeps back.
+/// Flushes what the writer keeps back.
 fn hand_on<W: Write>(writer: &mut W) -> Result<(), Unwritten>
     ensures { Keeps (W.contents writer.old) (W.contents writer.new) }
 {

@@ -5,4 +5,4 @@ pub returns-in-Err : goal.returns-in-Err
 returns-in-Err c = (Err c.in-Err.e, c.in-Err.ensures, refl)
 
 pub returns-in-Ok : goal.returns-in-Ok
-returns-in-Ok c = (Ok (c.in-Ok.n, c.in-Ok.suffix.now), c.in-Ok.ensures, c.continuous_of.ensures)
+returns-in-Ok c = (Ok (c.in-Ok.n, c.in-Ok.suffix.now), c.in-Ok.ensures, c.switched_by.ensures)

@@ -18,8 +18,8 @@ returns-in-Ejected g c =
       others = l.others;
     }
 
-pub returns : goal.returns
-returns g c =
+pub returns-in_default : goal.returns-in_default
+returns-in_default g c =
     let p = c.args.held.now.panel in
     let q = c.ask.new.self.panel in
     let ask = AskEject c.args.slot in

@@ -1,7 +1,8 @@
 use Rattle.std.proofs.Common.{◌≡◌, Bool, ap, sym, subst, ◌∙◌}
 use Rattle.std.specs.Prelude.{if◌then◌else◌}
 use Rattle.sw_verify.specs.declared.snapshot.Snapshot.{Snapshot}
-use Rattle.sw_verify.specs.Course.{CourseSeen, course_of}
+use Rattle.sw_verify.specs.Course.{CourseSeen}
+use Rattle.sw_verify.specs.Setup.{course_of}
 use Rattle.sw_cage.specs.Outcome.{Advances, begun}
 use Rattle.sw_cage.specs.TakenSeen.{taken_seen}
 use Rattle.sw_cage.proofs.CardLemmas.{seen_is}

@@ -4,7 +4,7 @@ use Rattle.sw_session.proofs.talker.Talker.serve_own.Goals as goal
 
 pub returns-clause-serves : goal.returns-clause-serves
 returns-clause-serves g c = λ path answers written.
-    let s = c.conclude.ensures path c.args.self.now.macros answers written in (
+    let s = c.conclude-after.ensures path c.args.self.now.macros answers written in (
       s.0,
       s.1,
       serve-unit g.D.Desk.passes _ _ _ c.args.self.now.sid (Ok c.args.command) _ path c.args.self.now.macros c.carry_own-answer.new.macros answers

@@ -6,7 +6,7 @@ use Rattle.sw_session.proofs.talker.Talker.serve_unread.Goals as goal
 
 pub returns-clause-serves : goal.returns-clause-serves
 returns-clause-serves g c = λ path answers written.
-    let s = c.conclude.ensures path c.args.self.now.macros answers written in
+    let s = c.conclude-after.ensures path c.args.self.now.macros answers written in
     let sid = c.args.self.now.sid in
     let macros = c.args.self.now.macros in
     let answer = c.queue-answer.result in (

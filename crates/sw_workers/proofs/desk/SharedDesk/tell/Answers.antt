@@ -1,8 +1,5 @@
-use Rattle.sw_workers.proofs.AskedLemmas.{brings-taken, brings-none}
+use Rattle.sw_workers.proofs.AskedLemmas.{brings-taken}
 use Rattle.sw_workers.proofs.desk.SharedDesk.tell.Goals as goal
 
 pub returns-in-Taken : goal.returns-in-Taken
 returns-in-Taken g c = brings-taken _ _ c.act.result _ _ _ c.act.ensures c.in-Taken.is
-
-pub returns : goal.returns
-returns g c = brings-none _ _ c.act.result _ _ c.act.ensures c.in_default.not-Taken

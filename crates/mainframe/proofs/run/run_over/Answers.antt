@@ -1,6 +1,0 @@
-use Rattle.std.proofs.Common.{refl}
-use Rattle.mainframe.proofs.RunsLemmas.{runs_begun}
-use Rattle.mainframe.proofs.run.run_over.Goals as goal
-
-pub returns-in-Ok : goal.returns-in-Ok
-returns-in-Ok g c = runs_begun c.every_run_is_good.ensures _ _ _ _ c.in-Ok.ensures.desk refl _ _ _ _ _ c.run_on.ensures.ok c.run_on.ensures.all c.run_on.ensures.err
