@@ -62,7 +62,7 @@ option_set_rest (Some a) ch on = ap (λ (l : List Bool). let b : Account = recor
 closed_same : (l : List Bool) (ch : ℕ) (on : Bool) → 0 < ch → ch ≤ length l → closed_at (set_closed l ch on) ch ≡ on
 closed_same l ch on p h = grind (arith, common_steps, get_or-set_same)
 
-closed_other : (l : List Bool) (ch k : ℕ) (on : Bool) → 0 < ch → k ≢ ch → closed_at (set_closed l ch on) k ≡ closed_at l k
+pub closed_other : (l : List Bool) (ch k : ℕ) (on : Bool) → 0 < ch → k ≢ ch → closed_at (set_closed l ch on) k ≡ closed_at l k
 closed_other l ch k on p h = grind (arith, common_steps, get_or-set_other)
 
 has_bounds : (a : Account) (ch : ℕ) → contents_have (Some (card_contents a)) ch ≡ true → (0 < ch) × (ch ≤ length a.groups)

@@ -1,6 +1,6 @@
 -- Lemmas on the index of claimed groups.
 use Rattle.std.proofs.Common.{◌≡◌, ◌≢◌, ℕ, ◌+◌, ◌≤◌, ◌<◌, Bool, true, false, List, [], ◌∷◌, length, Option, None, Some, slice_index_or, slice_set, ◌⊎◌, inl}
-use Rattle.std.proofs.Common.{inr, refl, sym, ◌∙◌, ap, subst, zero, suc, replicate, take, map, if◌then◌else◌}
+use Rattle.std.proofs.Common.{inr, refl, sym, ◌∙◌, ap, subst, zero, suc, replicate, take, map, if◌then◌else◌, arith}
 use Rattle.std.proofs.lemmas.List.{get_or-set_same, get_or-set_other, take_all}
 use Rattle.std.proofs.lemmas.Bool.{cases_eq, or_cases, or_left, or_right}
 use Rattle.std.proofs.Math.ListN.{get_or-map}
@@ -214,3 +214,59 @@ with_apart layout closed chans i index h kept clash =
     let holds : IndexesClaims layout (λ x. closed_with closed chans x ≡ true) index =
     subst (λ (l : List Channel). IndexesClaims layout (λ x. closed_with closed l x ≡ true) index) e kept in
     holds_apart layout (λ x. closed_with closed chans x ≡ true) index holds clash.one clash.other clash.one_closed clash.other_closed clash.clash
+
+-- one channel alone
+
+one_more : (closed : Channel → Bool) (c x : Channel) → closed_with closed (c ∷ []) x ≡ true → (closed x ≡ true) ⊎ (x ≡ c)
+one_more closed c x p = elim (or_cases (is_among (c ∷ []) x) (closed x) p) [ inl a ↦ inr (in_one c x a) | inr b ↦ inl b ]
+
+-- no other channel has its group
+one_is_apart : (layout : Layout) (closed : Channel → Bool) (c : Channel) (index : Index) (group : ℕ)
+    → IndexesClaims layout (λ x. closed x ≡ true) index → group ≡ group_of layout c → (group ≢ 0 → group < length index)
+    → (group ≢ 0 → (other : Channel) → claim_at index group ≡ Some other → other ≡ c)
+    → HasClash layout (closed_with closed (c ∷ [])) → ⊥
+one_is_apart layout closed c index group h g room free clash = elim (cases_eq group 0) [
+  | inl z ↦ holds_apart layout (λ d. (closed d ≡ true) ⊎ (d ≡ c)) index
+      (holds_more layout (λ d. closed d ≡ true) index index group c h g free (λ n. absurd (n z)) room (λ e. refl))
+      clash.one clash.other (one_more closed c clash.one clash.one_closed) (one_more closed c clash.other clash.other_closed) clash.clash
+  | inr n ↦ holds_apart layout (λ d. (closed d ≡ true) ⊎ (d ≡ c)) (slice_set index group (Some c))
+      (holds_more layout (λ d. closed d ≡ true) index (slice_set index group (Some c)) group c h g free (λ m. refl) room (λ z. absurd (n z)))
+      clash.one clash.other (one_more closed c clash.one clash.one_closed) (one_more closed c clash.other clash.other_closed) clash.clash
+]
+
+-- another channel has its group
+one_has_clash : (layout : Layout) (closed : Channel → Bool) (c : Channel) (index : Index) (group : ℕ)
+    → IndexesClaims layout (λ x. closed x ≡ true) index → group ≡ group_of layout c → group ≢ 0
+    → (other : Channel) × ((claim_at index group ≡ Some other) × (other ≢ c)) → HasClash layout (closed_with closed (c ∷ []))
+one_has_clash layout closed c index group h g n found =
+    let k : (closed found.0 ≡ true) × IsClash layout found.0 c =
+    claim_clash layout (λ x. closed x ≡ true) index group c h g n found.0 found.1.0 found.1.1 in
+    record {
+      one = found.0;
+      other = c;
+      one_closed = or_right (is_among (c ∷ []) found.0) (closed found.0) k.0;
+      other_closed = or_left (is_among (c ∷ []) c) (closed c) (in_yes c c refl);
+      clash = k.1;
+    }
+
+-- the list has one channel
+one_item : (chans : List Channel) (c : Channel) → 1 ≤ length chans → length chans < 2 → c ≡ slice_index_or chans 0 c → c ∷ [] ≡ chans
+one_item [] c some few e = absurd (omega (arith, some))
+one_item (x ∷ []) c some few e = ap (λ (d : Channel). d ∷ []) e
+one_item (x ∷ y ∷ chans) c some few e = absurd (omega (arith, few))
+
+pub one_apart : (layout : Layout) (closed : Channel → Bool) (chans : List Channel) (c : Channel) (index : Index) (group : ℕ)
+    → 1 ≤ length chans → length chans < 2 → c ≡ slice_index_or chans 0 c
+    → IndexesClaims layout (λ x. closed x ≡ true) index → group ≡ group_of layout c → (group ≢ 0 → group < length index)
+    → (group ≢ 0 → (other : Channel) → claim_at index group ≡ Some other → other ≡ c)
+    → HasClash layout (closed_with closed chans) → ⊥
+one_apart layout closed chans c index group some few e h g room free clash = one_is_apart layout closed c index group h g room free
+    (subst (λ (l : List Channel). HasClash layout (closed_with closed l)) (sym (one_item chans c some few e)) clash)
+
+pub one_clash : (layout : Layout) (closed : Channel → Bool) (chans : List Channel) (c : Channel) (index : Index) (group : ℕ)
+    → 1 ≤ length chans → length chans < 2 → c ≡ slice_index_or chans 0 c
+    → IndexesClaims layout (λ x. closed x ≡ true) index → group ≡ group_of layout c → group ≢ 0
+    → (other : Channel) × ((claim_at index group ≡ Some other) × (other ≢ c)) → HasClash layout (closed_with closed chans)
+one_clash layout closed chans c index group some few e h g n found =
+    subst (λ (l : List Channel). HasClash layout (closed_with closed l)) (one_item chans c some few e)
+    (one_has_clash layout closed c index group h g n found)

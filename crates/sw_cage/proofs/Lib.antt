@@ -5,6 +5,7 @@ mod ComparedListLemmas
 pub mod ClaimLemmas
 pub mod ExclusionLemmas
 mod OneSlotLemmas
+mod SharedLemmas
 pub mod CardLemmas
 mod ClaimedLemmas
 pub mod MaskLemmas

@@ -120,7 +120,7 @@ closing_grows a ch h = record { bay = refl; row = set_row a ch true; closed = λ
 pub opening_grows : (a : Account) (ch : ℕ) → IsSlotGrown (Some a) ch (Some (with_set a ch false))
 opening_grows a ch = record { bay = refl; row = set_row a ch false; closed = λ k e. inl (open_set a.closed ch k e) }
 
-fault_bay : (a b : Account) (most : List Bool) → IsFault a most b → card_contents b ≡ card_contents a
+pub fault_bay : (a b : Account) (most : List Bool) → IsFault a most b → card_contents b ≡ card_contents a
 fault_bay a b most f = let g = f.groups in let l = f.last in cc
 
 fault_row : (a b : Account) (most : List Bool) → length most ≡ length a.closed → IsFault a most b → IsWellFormed a → IsWellFormed b

@@ -1,5 +1,6 @@
 pub mod Accounts
 pub mod Masks
+pub mod Shared
 pub mod Change
 pub mod Install
 pub mod Close

@@ -57,6 +57,23 @@ impl Claims {
         self.by_group[group as usize] = None;
     }
 
+    /// Whether no other channel has the group; none has group 0.
+    pub(super) fn is_free(&self, group: u8, chan: Chan) -> bool
+        ensures free { result ≡ true → group ≢ 0 → (other : Channel)
+            → claim_at self.now group ≡ Some other → other ≡ chan }
+        ensures taken { result ≡ false → (other : Channel) × ((claim_at self.now group ≡ Some other) × (other ≢ chan)) }
+        ensures grouped { result ≡ false → group ≢ 0 }
+        ensures room { group ≢ 0 → group < length self.now }
+    {
+        if group == 0 {
+            return true;
+        }
+        match self.by_group[group as usize] {
+            Some(other) => other == chan,
+            None => true,
+        }
+    }
+
     /// Claims the channel's group for it, unless another channel has it.
     pub(super) fn claim(&mut self, group: u8, chan: Chan) -> bool
         ensures free { result ≡ true → group ≢ 0 → (other : Channel)
@@ -70,10 +87,8 @@ impl Claims {
         if group == 0 {
             return true;
         }
-        if let Some(other) = self.by_group[group as usize] {
-            if other != chan {
-                return false;
-            }
+        if !self.is_free(group, chan) {
+            return false;
         }
         self.by_group[group as usize] = Some(chan);
         true

@@ -225,10 +225,7 @@ impl<R: Relay, M: Meter> Slots<R, M> {
         requires { is_present (layout_of (accounts_of self.now)) chan ≡ true }
         ensures { result ≡ group_of (layout_of (accounts_of self.now)) chan }
     {
-        match &self.slots[chan.slot() as usize - 1].card {
-            Some(card) => card.group(chan.ch()),
-            None => unreachable!(),
-        }
+        slot::group_in(&self.slots[chan.slot() as usize - 1], chan.ch())
     }
 
     /// Whether the cage has every channel of the list.
@@ -297,11 +294,25 @@ impl<R: Relay, M: Meter> Slots<R, M> {
         if !self.all_present(chans) {
             return Err(CloseRefusal::Absent);
         }
-        let mut claims = self.claims;
-        if !self.claim_listed(chans, &mut claims) {
+        if !self.are_apart(chans) {
             return Err(CloseRefusal::Clash);
         }
         Ok(())
+    }
+
+    /// Whether no two channels clash once those of the list are closed too. One alone takes no copy of the claims.
+    fn are_apart(&self, chans: &[Chan]) -> bool
+        requires { all_present (layout_of (accounts_of self.now)) chans.now ≡ true }
+        ensures apart { result ≡ true → HasClash (layout_of (accounts_of self.now))
+            (closed_with (is_closed (accounts_of self.now)) chans.now) → ⊥ }
+        ensures clash { result ≡ false → HasClash (layout_of (accounts_of self.now))
+            (closed_with (is_closed (accounts_of self.now)) chans.now) }
+    {
+        if let [chan] = chans {
+            return self.claims.is_free(self.group(*chan), *chan);
+        }
+        let mut claims = self.claims;
+        self.claim_listed(chans, &mut claims)
     }
 
     /// Appends the closed channels of the slot.

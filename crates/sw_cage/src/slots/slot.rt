@@ -1,9 +1,10 @@
 //! The calls on one slot and its card.
 
-ghost use Rattle.std.specs.Prelude.{◌≡◌, ℕ, ◌≤◌, length, true, false, None, Some, OnOk, OnErr, IfOk, ◌↔◌, IsTrue};
+ghost use Rattle.std.specs.Prelude.{◌≡◌, ◌≢◌, ℕ, ◌≤◌, length, true, false, None, Some, OnOk, OnErr, IfOk, ◌↔◌};
+ghost use Rattle.std.specs.Prelude.{IfSome, IfNone, IsTrue};
 ghost use Rattle.std.proofs.Common.{inr};
 ghost use Rattle.sw_base.specs.Limits.{most_slots, most_channels};
-ghost use Rattle.sw_base.specs.Layout.{contents_have, contents_are_meter};
+ghost use Rattle.sw_base.specs.Layout.{contents_have, contents_group, contents_are_meter, group_at};
 ghost use Rattle.sw_card.specs.Account.{closed_at, is_meter, of_meter, at_rest};
 ghost use Rattle.sw_cage.specs.Accounts.{accounts_of, option_account, slot_contents, option_closed, option_set};
 ghost use Rattle.sw_cage.specs.Accounts.{option_rest, OptionWellFormed};
@@ -11,6 +12,7 @@ ghost use Rattle.sw_cage.specs.Accounts.{all_open, is_closed, IsSlotFault};
 ghost use Rattle.sw_cage.specs.Cards.{meter_only, meters_of, option_sure};
 ghost use Rattle.sw_cage.specs.Install.{IsUnfit};
 ghost use Rattle.sw_cage.specs.Masks.{IsSlotMask};
+ghost use Rattle.sw_cage.specs.Shared.{IsShared};
 
 use std::alloc::{AllocError, Global};
 use std::marker::Model;
@@ -18,11 +20,13 @@ use sw_base::{CHANNELS, Chan};
 use sw_card::{Card, CardFault, Mask, Meter, MeterCard, Relay};
 use sw_verify::Slot;
 
-/// A slot: its card, if it has one, and which of the card's channels are closed. Contracts see the card.
+/// A slot: its card, if it has one, which of the card's channels are closed, and the group that they share, if they do.
+/// Contracts see the card.
 #[derive(Drop)]
 pub(super) struct CageSlot<R: Relay, M: Meter> {
     pub(super) card: Option<Card<R, M>>,
     closed: Mask,
+    shared: Option<u8>,
 }
 
 impl<R: Relay, M: Meter> Model for CageSlot<R, M> {
@@ -30,12 +34,14 @@ impl<R: Relay, M: Meter> Model for CageSlot<R, M> {
     ghost use Rattle.sw_card.specs.Account.{Account};
     ghost use Rattle.sw_cage.specs.Accounts.{option_account};
     ghost use Rattle.sw_cage.specs.Masks.{IsSlotMask};
+    ghost use Rattle.sw_cage.specs.Shared.{IsShared};
 
     ghost Value = { Option ((R ⊎ M) × Account) };
 
     ghost view = { λ p. p.card };
 
-    ghost invariant = { λ p. IsSlotMask p.closed (option_account p.card) };
+    ghost invariant = { λ p.
+        IsSlotMask p.closed (option_account p.card) × IsShared p.shared (option_account p.card) };
 }
 
 impl<R: Relay, M: Meter> CageSlot<R, M> {
@@ -46,6 +52,7 @@ impl<R: Relay, M: Meter> CageSlot<R, M> {
         CageSlot {
             card: None,
             closed: Mask::new(),
+            shared: None,
         }
     }
 
@@ -54,9 +61,11 @@ impl<R: Relay, M: Meter> CageSlot<R, M> {
         ensures { result ≡ Some card }
     {
         let closed = card.closed_mask();
+        let shared = shared_group(&card);
         CageSlot {
             card: Some(card),
             closed,
+            shared,
         }
     }
 
@@ -67,6 +76,7 @@ impl<R: Relay, M: Meter> CageSlot<R, M> {
         CageSlot {
             card: Some(Card::of_meter(meter)),
             closed: Mask::new(),
+            shared: None,
         }
     }
 
@@ -76,6 +86,22 @@ impl<R: Relay, M: Meter> CageSlot<R, M> {
     {
         self.closed
     }
+}
+
+/// The group that all of the card's channels are in, if there is one; 0 where they are in none.
+fn shared_group<R: Relay, M: Meter>(card: &Card<R, M>) -> Option<u8>
+    ensures shared { IfSome result (λ group. (ch : ℕ) → 1 ≤ ch → ch ≤ length card.now.1.groups
+        → group_at card.now.1.groups ch ≡ group) }
+    ensures apart { IfNone result ((ch : ℕ) × (1 ≤ ch) × (ch ≤ length card.now.1.groups)
+        × (group_at card.now.1.groups ch ≢ group_at card.now.1.groups 1)) }
+{
+    let group = card.group(1);
+    for before in 0..card.channels() {
+        if card.group(before + 1) != group {
+            return None;
+        }
+    }
+    Some(group)
 }
 
 /// Whether the card may be installed: a meter, or 1 to [`CHANNELS`] channels, all of them open.
@@ -219,6 +245,21 @@ pub(super) fn is_sure_in<R: Relay, M: Meter>(slot: &CageSlot<R, M>) -> bool
     match &slot.card {
         Some(card) => card.is_sure(),
         None => true,
+    }
+}
+
+/// The group of a channel that the card in the slot has. Of the card it is asked only where its channels share none.
+#[inline(always)]
+pub(super) fn group_in<R: Relay, M: Meter>(slot: &CageSlot<R, M>, ch: u8) -> u8
+    requires present { contents_have (slot_contents (option_account slot.now)) ch ≡ true }
+    ensures { result ≡ contents_group (slot_contents (option_account slot.now)) ch }
+{
+    if let Some(group) = slot.shared {
+        return group;
+    }
+    match &slot.card {
+        Some(card) => card.group(ch),
+        None => unreachable!(),
     }
 }
 

@@ -80,3 +80,7 @@ returns-in-Ok-clause-elsewhere g c slot far = elsewhere_is c.self.inside.slots.i
 pub returns-in-Err-clause-elsewhere : goal.returns-in-Err-clause-elsewhere
 returns-in-Err-clause-elsewhere g c slot far = elsewhere_is c.self.inside.slots.items c.args.self.now c.slot.result c.args.chan.0 c.close_in.new.slot
     c.self.view_is c.slot.ensures.value c.slot.ensures.range.0 slot far
+
+pub returns-in-Ok-clause-others : goal.returns-in-Ok-clause-others
+returns-in-Ok-clause-others g c = others_are c.self.inside.slots.items c.args.self.now c.slot.result c.args.chan.0 c.close_in.new.slot c.self.view_is
+    c.self.invariant.safe.size c.slot.ensures.value c.slot.ensures.range.0 c.slot.ensures.range.1
