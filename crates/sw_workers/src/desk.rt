@@ -1,7 +1,7 @@
 //! The desk of one thread.
 
 ghost use Rattle.std.specs.Prelude.{◌≡◌, [], None, Some, IfSome};
-ghost use Rattle.sw_core.specs.Seen.{ask_seen, answer_seen, work_seen, AskSession, SaysSession};
+ghost use Rattle.sw_core.specs.Seen.{ask_seen, work_seen};
 ghost use Rattle.sw_session.specs.CoreDesk.{TellsOfPiece, piece_seen};
 ghost use Rattle.sw_session.specs.Trace.{LeavesOf};
 ghost use Rattle.sw_workers.specs.Opened.{OpensAll};
@@ -9,6 +9,7 @@ ghost use Rattle.sw_workers.specs.Waits.{MayRest, limit_after, number_after, is_
 ghost use Rattle.sw_workers.specs.Work.{AsksOnce, Brings, SeesToWork, EndsPiece, Deserts, desk_seen, IsRested, Works, none_own};
 ghost use Rattle.sw_workers.specs.declared.desk.Rest.TheVariants.{Deserted};
 
+use crate::event_kind::{BySession, EventKind, FromOutside};
 use crate::gate::{Gate, Point};
 use crate::held::{DeskPart, Mainframe};
 use crate::leaving::await_served;
@@ -54,6 +55,18 @@ fn number_after(number: Option<u8>, seating: Seating, answer: &SessionAnswer) ->
         (Seating::Stays, _) => number,
         (Seating::Joins, SessionAnswer::Joined(sid)) => Some(sid.number),
         _ => None,
+    }
+}
+
+/// The same after an ask of any kind: what no session asked changes it nowhere.
+fn number_next<R: Relay, M: Meter, E: EventKind<R, M>>(
+    number: Option<u8>,
+    seating: Seating,
+    answer: &E::Answer,
+) -> Option<u8> {
+    match E::session_answer(answer) {
+        Some(answer) => number_after(number, seating, answer),
+        None => number,
     }
 }
 
@@ -213,7 +226,10 @@ impl<H: Mainframe, R: Relay, M: Meter, G: Gate + Drop, W: Wait + Clock + Copy + 
     pub(crate) fn tell(&mut self, ask: Ask<R, M>) -> Option<Work<M>>
         ensures { Brings H.first (ask_seen ask) self.old.part (work_seen result) self.new.part }
     {
-        match self.act(ask) {
+        let mut answer = Answer::Missed;
+        self.act::<FromOutside>(Seating::Stays, ask, &mut answer, &mut ());
+        let told = answer;
+        match told {
             Answer::Taken(work) => work,
             other => {
                 drop(other);
@@ -222,33 +238,24 @@ impl<H: Mainframe, R: Relay, M: Meter, G: Gate + Drop, W: Wait + Clock + Copy + 
         }
     }
 
-    /// Makes an ask that no session makes.
-    fn act(&mut self, ask: Ask<R, M>) -> Answer<R, M>
-        ensures { AsksOnce H.first (ask_seen ask) (answer_seen result) self.old.part self.new.part }
-    {
-        let (answer, turn) = self.shared.act(&self.rt, &mut self.part, ask);
-        self.seen = turn;
-        self.leave_seen();
-        answer
-    }
-
-    /// Makes a session's ask. It leaves the answer in `answer`, and in `work` what the scan awaits now.
+    /// Makes an ask of any kind. `seating`: how it is to change which sessions have joined. It leaves the answer in
+    /// `answer`, and what comes beside it in `left`.
     #[inline(always)]
-    fn act_session(
+    fn act<E: EventKind<R, M>>(
         &mut self,
         seating: Seating,
-        ask: SessionAsk,
-        answer: &mut SessionAnswer,
-        work: &mut Option<Work<M>>,
+        ask: E::Ask,
+        answer: &mut E::Answer,
+        left: &mut E::Left,
     )
-        requires { work.old ≡ None }
-        ensures { AsksOnce H.first (AskSession ask) (SaysSession answer.new (work_seen work.new))
+        requires { E.is_blank left.old }
+        ensures { AsksOnce H.first (E.asked ask) (E.answered answer.new left.new)
             self.old.part self.new.part }
     {
         self.seen = self
             .shared
-            .act_session(&self.rt, &mut self.part, seating, ask, answer, work);
-        self.number = number_after(self.number, seating, answer);
+            .act::<E, W>(&self.rt, &mut self.part, seating, ask, answer, left);
+        self.number = number_next::<R, M, E>(self.number, seating, answer);
         self.leave_seen();
     }
 
@@ -366,7 +373,7 @@ impl<H: Mainframe, R: Relay, M: Meter, G: Gate + Drop, W: Wait + Clock + Copy + 
         let serves = self.serves;
         let leaves = is_leave(&ask);
         let mut work = None;
-        self.act_session(seating, ask, answer, &mut work);
+        self.act::<BySession>(seating, ask, answer, &mut work);
         self.place.follow(&self.rt, seating, answer);
         self.carry(work);
         self.limit = limit_after(self.limit, answer);

@@ -5,29 +5,27 @@ ghost use mathlib.Core.List.{IsPrefix};
 ghost use Rattle.circular_buffer.specs.Buffer.{buffer, keep_last};
 ghost use Rattle.sw_core.specs.Opening.{IsFresh, IsReached};
 ghost use Rattle.sw_core.specs.Seen.{ask_seen, answer_seen, failed_in, HandsBack};
-ghost use Rattle.sw_core.specs.Seen.{work_seen, AskSession, SaysSession};
-ghost use Rattle.sw_cage.specs.Change.{any_failed};
 ghost use Rattle.sw_core.specs.Step.{Step};
 ghost use Rattle.sw_workers.specs.Board.{entry_of, reader};
 ghost use Rattle.sw_workers.specs.Closing.{EndsAtRest, is_unasked};
 ghost use Rattle.sw_workers.specs.Entries.{last_pair, made_by};
 ghost use Rattle.sw_workers.specs.Held.{notes_of, noted};
 ghost use Rattle.sw_workers.specs.History.{pair_of, event, said_at, grown, IsHistory, AsksInHistory, AwaitsEnd};
-ghost use Rattle.sw_workers.specs.Kinds.{ask_kind, session_kind};
-ghost use Rattle.sw_workers.specs.Shares.{all_parts, is_counted, is_event, is_session_event, one_if};
+ghost use Rattle.sw_workers.specs.Kinds.{ask_kind};
+ghost use Rattle.sw_workers.specs.Shares.{all_parts, is_counted, is_event, one_if};
 ghost use Rattle.sw_workers.specs.Waking.{HoldsOn, TellsScan, turn_after};
 ghost use Rattle.sw_workers.specs.Work.{AsksOnce};
 
 use crate::board::StatusBoard;
+use crate::event_kind::{EventKind, FromOutside};
 use crate::laws::whoever_may_go_on_is_woken;
 use crate::line::Hearing;
-use crate::note::{Note, kind, session_kind};
+use crate::note::Note;
 use crate::outboxes::Outbox;
 use crate::recorded::{Recorded, Recording};
 use crate::seat::StatusSeat;
 use crate::slots::SeatSlots;
-use crate::telling::{is_event, is_session_event};
-use crate::waking::{Concern, concern_of, session_concern, session_wakes, turn_after, wakes};
+use crate::waking::{Concern, turn_after, wakes};
 use crate::work_channels::{Carrier, Receiving};
 use circular_buffer::HeapCircularBuffer;
 use std::alloc::{AllocError, Global};
@@ -35,7 +33,7 @@ use std::marker::{Brand, Model};
 use std::sync::Wait;
 use std::sync::ledger::{Book, Ledger, Share};
 use sw_card::{Meter, Relay};
-use sw_core::{Answer, Ask, SessionAnswer, SessionAsk, Sid, Work, runs_go_on};
+use sw_core::{Answer, Ask, Sid, runs_go_on};
 
 /// Which mainframe it is, to the threads that wait for it. Only `end` proves that its end has begun; after that no
 /// thread has to wait.
@@ -187,10 +185,10 @@ fn count<H: Mainframe>(
 }
 
 /// Whether the mainframe is still at rest after this ask: a session's ask ends the rest.
-fn rests_on<R: Relay, M: Meter>(at_rest: bool, ask: &Ask<R, M>) -> bool
-    ensures { result ≡ at_rest && is_unasked (ask_seen ask.now) }
+fn rests_on<R: Relay, M: Meter, E: EventKind<R, M>>(at_rest: bool, ask: &E::Ask) -> bool
+    ensures { result ≡ at_rest && is_unasked (E.asked ask.now) }
 {
-    at_rest && !matches!(ask, Ask::Session(_))
+    at_rest && E::is_unasked(ask)
 }
 
 impl<H: Mainframe, R: Relay, M: Meter> Held<H, R, M> {
@@ -326,42 +324,26 @@ impl<H: Mainframe, R: Relay, M: Meter> Held<H, R, M> {
         }
     }
 
-    /// Makes an ask, and takes another turn where a held ask may proceed. Where the turn stays, the mainframe still
-    /// holds all that it held.
+    /// Makes an ask of any kind, and takes another turn where a held ask may proceed. Where the turn stays, the
+    /// mainframe still holds all that it held. It leaves the answer in `answer`, and what comes beside it in `left`.
     #[inline(always)]
-    pub fn act(&mut self, part: &mut DeskPart<H>, ask: Ask<R, M>) -> Answer<R, M>
-        ensures once { AsksOnce H.first (ask_seen ask) (answer_seen result) part.old part.new }
-        ensures waits { self.new.turn ≡ self.old.turn → HoldsOn self.old.panel self.new.panel }
-    {
-        whoever_may_go_on_is_woken();
-        let concern = concern_of(&ask);
-        let ran = self.tells_scan(concern);
-        let answer = self.ask(part, ask);
-        let runs = self.tells_scan(concern);
-        self.take_turn(wakes(concern, ran, runs, &answer));
-        answer
-    }
-
-    /// Makes a session's ask, as `act` does. It leaves the answer in `answer`, and in `work` what the scan awaits now.
-    #[inline(always)]
-    pub fn act_session(
+    pub fn act<E: EventKind<R, M>>(
         &mut self,
         part: &mut DeskPart<H>,
-        ask: SessionAsk,
-        answer: &mut SessionAnswer,
-        work: &mut Option<Work<M>>,
+        ask: E::Ask,
+        answer: &mut E::Answer,
+        left: &mut E::Left,
     )
-        requires empty { work.old ≡ None }
-        ensures once { AsksOnce H.first (AskSession ask) (SaysSession answer.new (work_seen work.new))
-            part.old part.new }
+        requires { E.is_blank left.old }
+        ensures once { AsksOnce H.first (E.asked ask) (E.answered answer.new left.new) part.old part.new }
         ensures waits { self.new.turn ≡ self.old.turn → HoldsOn self.old.panel self.new.panel }
     {
         whoever_may_go_on_is_woken();
-        let concern = session_concern(&ask);
+        let concern = E::concern(&ask);
         let ran = self.tells_scan(concern);
-        self.ask_session(part, ask, answer, work);
+        let happened = self.step::<E>(part, ask, answer, left);
         let runs = self.tells_scan(concern);
-        self.take_turn(session_wakes(concern, ran, runs, answer));
+        self.take_turn(wakes::<R, M, E>(concern, ran, runs, happened, answer));
     }
 
     /// From now on no thread has to wait.
@@ -401,10 +383,59 @@ impl<H: Mainframe, R: Relay, M: Meter> Held<H, R, M> {
         self.notes.to_vec(self.alloc)
     }
 
-    /// Makes an ask. An event is published, becomes one more entry of the desk in the history, and gets a note. A
-    /// numbered event counts in the desk's share, once. The desk's seat has then seen the whole history.
+    /// Makes an ask of any kind, and gives whether that was an event. An event is published, becomes one more entry of
+    /// the desk in the history, and gets a note. A numbered event counts in the desk's share, once. The desk's seat has
+    /// then seen the whole history. It leaves the answer in `answer`, and what comes beside it in `left`.
     #[tactic(auto, using(crate::proofs::CountedLemmas::step_counted))]
     #[inline(always)]
+    pub fn step<E: EventKind<R, M>>(
+        &mut self,
+        part: &mut DeskPart<H>,
+        ask: E::Ask,
+        answer: &mut E::Answer,
+        left: &mut E::Left,
+    ) -> bool
+        requires { E.is_blank left.old }
+        ensures step { let said = E.answered answer.new left.new in Step self.old.panel (E.asked ask)
+            (failed_in (E.asked ask) said self.old.panel.cage.cards self.new.panel.cage.cards) said self.new.panel }
+        ensures back { E.hands_back ask answer.new }
+        ensures event { result ≡ is_event (E.answered answer.new left.new) }
+        ensures asked { AsksInHistory H.first self.old.panel part.old.seat
+            (event (E.asked ask) (E.answered answer.new left.new) self.new.panel) part.new.seat }
+        ensures seen { IsPrefix part.old.seat.seen self.old.history × (part.new.seat.seen ≡ self.new.history) }
+        ensures history { let said = E.answered answer.new left.new in self.new.history ≡ grown
+            (is_event said) self.old.history (entry_of part.old.seat (said_at self.new.panel (E.asked ask) said)) }
+        ensures share { part.new.amount ≡ part.old.amount
+            + one_if (is_counted self.old.panel.events (E.answered answer.new left.new)) }
+        ensures given { (self.new.given ≡ self.old.given) × (self.new.turn ≡ self.old.turn) }
+        ensures notes { let said = E.answered answer.new left.new in notes_of self.new.history
+            ≡ noted (is_event said) (notes_of self.old.history)
+            (record { number = self.new.panel.events; ask = ask_kind (E.asked ask) }) }
+    {
+        runs_go_on();
+        self.core.has_history();
+        let before = self.core.events();
+        let kind = E::kind(&ask);
+        self.at_rest = rests_on::<R, M, E>(self.at_rest, &ask);
+        let happened = self
+            .core
+            .ask::<E>(self.alloc, &mut part.seat, ask, answer, left);
+        if !happened {
+            return false;
+        }
+        let number = self.core.events();
+        let note = Note { number, ask: kind };
+        count(
+            &mut self.notes,
+            &mut self.events,
+            &mut part.share,
+            note,
+            before,
+        );
+        true
+    }
+
+    /// Asks the mainframe, as `step` does, and gives its answer.
     pub fn ask(&mut self, part: &mut DeskPart<H>, ask: Ask<R, M>) -> Answer<R, M>
         ensures step { Step self.old.panel (ask_seen ask)
             (failed_in (ask_seen ask) (answer_seen result) self.old.panel.cage.cards self.new.panel.cage.cards)
@@ -421,67 +452,8 @@ impl<H: Mainframe, R: Relay, M: Meter> Held<H, R, M> {
         ensures notes { notes_of self.new.history ≡ noted (is_event (answer_seen result)) (notes_of self.old.history)
             (record { number = self.new.panel.events; ask = ask_kind (ask_seen ask) }) }
     {
-        runs_go_on();
-        self.core.has_history();
-        let before = self.core.events();
-        let kind = kind(&ask);
-        self.at_rest = rests_on(self.at_rest, &ask);
-        let answer = self.core.ask(self.alloc, &mut part.seat, ask);
-        if !is_event(&answer) {
-            return answer;
-        }
-        let number = self.core.events();
-        let note = Note { number, ask: kind };
-        count(
-            &mut self.notes,
-            &mut self.events,
-            &mut part.share,
-            note,
-            before,
-        );
+        let mut answer = Answer::Missed;
+        self.step::<FromOutside>(part, ask, &mut answer, &mut ());
         answer
-    }
-
-    /// Makes a session's ask, as `ask` does. It leaves the answer in `answer`, and in `work` what the scan awaits now.
-    #[tactic(auto, using(crate::proofs::CountedLemmas::step_counted))]
-    #[inline(always)]
-    pub fn ask_session(
-        &mut self,
-        part: &mut DeskPart<H>,
-        ask: SessionAsk,
-        answer: &mut SessionAnswer,
-        work: &mut Option<Work<M>>,
-    )
-        requires empty { work.old ≡ None }
-        ensures step { Step self.old.panel (AskSession ask)
-            (any_failed self.old.panel.cage.cards self.new.panel.cage.cards)
-            (SaysSession answer.new (work_seen work.new)) self.new.panel }
-        ensures asked { AsksInHistory H.first self.old.panel part.old.seat
-            (event (AskSession ask) (SaysSession answer.new (work_seen work.new)) self.new.panel) part.new.seat }
-        ensures seen { IsPrefix part.old.seat.seen self.old.history × (part.new.seat.seen ≡ self.new.history) }
-        ensures history { self.new.history ≡ grown (is_session_event answer.new) self.old.history (entry_of
-            part.old.seat (said_at self.new.panel (AskSession ask) (SaysSession answer.new (work_seen work.new)))) }
-        ensures share { part.new.amount ≡ part.old.amount
-            + one_if (is_counted self.old.panel.events (SaysSession answer.new (work_seen work.new))) }
-        ensures given { (self.new.given ≡ self.old.given) × (self.new.turn ≡ self.old.turn) }
-        ensures notes { notes_of self.new.history ≡ noted (is_session_event answer.new) (notes_of self.old.history)
-            (record { number = self.new.panel.events; ask = session_kind ask }) }
-    {
-        let before = self.core.events();
-        let kind = session_kind(&ask);
-        self.at_rest = false;
-        self.core
-            .ask_session(self.alloc, &mut part.seat, ask, answer, work);
-        if !is_session_event(answer) {
-            return;
-        }
-        let number = self.core.events();
-        count(
-            &mut self.notes,
-            &mut self.events,
-            &mut part.share,
-            Note { number, ask: kind },
-            before,
-        );
     }
 }

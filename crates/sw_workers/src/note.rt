@@ -1,12 +1,5 @@
 //! Notes of events.
 
-ghost use Rattle.std.specs.Prelude.{◌≡◌};
-ghost use Rattle.sw_core.specs.Seen.{ask_seen};
-ghost use Rattle.sw_workers.specs.Kinds.{session_kind, ask_kind};
-
-use sw_card::{Meter, Relay};
-use sw_core::{Ask, SessionAsk};
-
 /// What an ask is called.
 #[derive(Clone, Copy, Debug, PartialEq, Eq)]
 pub enum AskKind {
@@ -61,42 +54,4 @@ pub struct Note {
     pub number: u64,
     /// What was asked.
     pub ask: AskKind,
-}
-
-/// What a session's ask is called.
-pub fn session_kind(ask: &SessionAsk) -> AskKind
-    ensures { result ≡ session_kind ask.now }
-{
-    match ask {
-        SessionAsk::Join => AskKind::Join,
-        SessionAsk::Attach(_) => AskKind::Attach,
-        SessionAsk::Attached(_) => AskKind::Attached,
-        SessionAsk::Leave(_) => AskKind::Leave,
-        SessionAsk::Size(_, _) => AskKind::Size,
-        SessionAsk::MaxSize(_) => AskKind::MaxSize,
-        SessionAsk::Clear(_) => AskKind::Clear,
-        SessionAsk::Cleared(_) => AskKind::Cleared,
-        SessionAsk::Lock(_, _) => AskKind::Lock,
-        SessionAsk::Release(_) => AskKind::Release,
-        SessionAsk::LockInfo(_) => AskKind::LockInfo,
-        SessionAsk::Unit(_, _, _) => AskKind::Unit,
-        SessionAsk::Fault(_, _) => AskKind::Fault,
-        SessionAsk::Bus(_) => AskKind::Bus,
-        SessionAsk::Snapshot(_) => AskKind::Snapshot,
-        SessionAsk::Start(_, _) => AskKind::Start,
-    }
-}
-
-/// What an ask is called.
-pub fn kind<R: Relay, M: Meter>(ask: &Ask<R, M>) -> AskKind
-    ensures { result ≡ ask_kind (ask_seen ask.now) }
-{
-    match ask {
-        Ask::Session(ask) => session_kind(ask),
-        Ask::Install(_, _) => AskKind::Install,
-        Ask::Eject(_) => AskKind::Eject,
-        Ask::External => AskKind::External,
-        Ask::Elapsed(_) => AskKind::Elapsed,
-        Ask::Finished(_) => AskKind::Finished,
-    }
 }

@@ -7,24 +7,23 @@ ghost use Rattle.sw_status.specs.StatusModel.{summary_of};
 ghost use Rattle.sw_core.specs.Opening.{IsFresh, IsReached};
 ghost use Rattle.sw_core.specs.Panel.{Panel, is_running};
 ghost use Rattle.sw_core.specs.Step.{Step};
-ghost use Rattle.sw_core.specs.Seen.{ask_seen, answer_seen, failed_in, HandsBack, IsOwnAccount};
-ghost use Rattle.sw_core.specs.Seen.{work_seen, AskSession, SaysSession};
-ghost use Rattle.sw_cage.specs.Change.{any_failed};
+ghost use Rattle.sw_core.specs.Seen.{failed_in, IsOwnAccount};
 ghost use Rattle.sw_workers.specs.Board.{entry_of};
 ghost use Rattle.sw_workers.specs.Entries.{made_by};
 ghost use Rattle.sw_workers.specs.History.{pair_of, event, said_at, grown, IsHistory, AsksInHistory, AwaitsEnd};
 ghost use Rattle.sw_workers.specs.Said.{said_in};
-ghost use Rattle.sw_workers.specs.Shares.{is_event, is_session_event};
+ghost use Rattle.sw_workers.specs.Shares.{is_event};
 
 use crate::board::{BoardName, StatusBoard};
+use crate::event_kind::EventKind;
 use crate::seat::{LockedPass, StatusSeat};
-use crate::telling::{Answered, Happened, is_event, is_session_event, tell_answered, tell_event};
+use crate::telling::{Happened, tell_event};
 use std::alloc::Global;
 use std::marker::{Brand, Model};
 use std::snapshot::Snapshot;
 use std::sync::Arc;
 use sw_card::{Meter, Relay};
-use sw_core::{Answer, Ask, Core, SessionAnswer, SessionAsk, Sid, Work, runs_go_on};
+use sw_core::{Core, SessionAsk, Sid, runs_go_on};
 use sw_lex::{Command, Plain};
 
 /// Which mainframe it is: its board, and the panel that it opened with.
@@ -83,77 +82,48 @@ impl<B: Recording, R: Relay, M: Meter> Recorded<B, R, M> {
         self.pass.new_desk(&self.board)
     }
 
-    /// Makes an ask. An event is published and becomes one more entry of the desk in the history; what is no event
-    /// changes nothing. The desk has then seen the whole history.
+    /// Makes an ask, and gives whether that was an event. An event is published and becomes one more entry of the desk
+    /// in the history; what is no event changes nothing. The desk has then seen the whole history. It leaves the answer
+    /// in `answer`, and what comes beside it in `left`.
     #[inline(always)]
-    pub fn ask(&mut self, alloc: Global, desk: &mut StatusSeat<B>, ask: Ask<R, M>) -> Answer<R, M>
+    pub fn ask<E: EventKind<R, M>>(
+        &mut self,
+        alloc: Global,
+        desk: &mut StatusSeat<B>,
+        ask: E::Ask,
+        answer: &mut E::Answer,
+        left: &mut E::Left,
+    ) -> bool
         requires desk { (d : ℕ) × (desk.old.desk ≡ Some d) }
-        ensures step { Step self.old.panel (ask_seen ask)
-            (failed_in (ask_seen ask) (answer_seen result) self.old.panel.cage.cards self.new.panel.cage.cards)
-            (answer_seen result) self.new.panel }
-        ensures own { IsOwnAccount (ask_seen ask) }
-        ensures back { HandsBack ask result }
+        requires blank { E.is_blank left.old }
+        ensures step { let said = E.answered answer.new left.new in Step self.old.panel (E.asked ask)
+            (failed_in (E.asked ask) said self.old.panel.cage.cards self.new.panel.cage.cards) said self.new.panel }
+        ensures own { IsOwnAccount (E.asked ask) }
+        ensures back { E.hands_back ask answer.new }
+        ensures event { result ≡ is_event (E.answered answer.new left.new) }
         ensures history { AsksInHistory B.first self.old.panel desk.old
-            (event (ask_seen ask) (answer_seen result) self.new.panel) desk.new }
+            (event (E.asked ask) (E.answered answer.new left.new) self.new.panel) desk.new }
         ensures seen { IsPrefix desk.old.seen self.old.history × (desk.new.seen ≡ self.new.history) }
-        ensures grown { self.new.history ≡ grown (is_event (answer_seen result)) self.old.history
-            (entry_of desk.old (said_at self.new.panel (ask_seen ask) (answer_seen result))) }
+        ensures grown { let said = E.answered answer.new left.new in self.new.history
+            ≡ grown (is_event said) self.old.history (entry_of desk.old (said_at self.new.panel (E.asked ask) said)) }
     {
         runs_go_on();
         let Recorded { core, pass, board } = self;
         let asked = Snapshot::of(&ask);
-        let answer = core.apply(alloc, ask);
-        if !is_event(&answer) {
+        E::happen(core, alloc, ask, answer, left);
+        if !E::is_event(answer) {
             pass.tell(board, desk);
-            return answer;
+            return false;
         }
         let event = Happened {
             number: core.events(),
             ask: asked,
-            answer: Snapshot::of(&answer),
-            pair: core.pair(),
-        };
-        tell_event(pass, board, desk, &event);
-        answer
-    }
-
-    /// Makes a session's ask, as `ask` does. It leaves the answer in `answer`, and in `work` what the scan awaits now.
-    #[inline(always)]
-    pub fn ask_session(
-        &mut self,
-        alloc: Global,
-        desk: &mut StatusSeat<B>,
-        ask: SessionAsk,
-        answer: &mut SessionAnswer,
-        work: &mut Option<Work<M>>,
-    )
-        requires desk { (d : ℕ) × (desk.old.desk ≡ Some d) }
-        requires empty { work.old ≡ None }
-        ensures step { Step self.old.panel (AskSession ask)
-            (any_failed self.old.panel.cage.cards self.new.panel.cage.cards)
-            (SaysSession answer.new (work_seen work.new)) self.new.panel }
-        ensures history { AsksInHistory B.first self.old.panel desk.old
-            (event (AskSession ask) (SaysSession answer.new (work_seen work.new)) self.new.panel) desk.new }
-        ensures seen { IsPrefix desk.old.seen self.old.history × (desk.new.seen ≡ self.new.history) }
-        ensures grown { self.new.history ≡ grown (is_session_event answer.new) self.old.history (entry_of desk.old
-            (said_at self.new.panel (AskSession ask) (SaysSession answer.new (work_seen work.new)))) }
-    {
-        runs_go_on();
-        let Recorded { core, pass, board } = self;
-        let asked = Snapshot::of(&ask);
-        core.ask(alloc, ask, answer, work);
-        if !is_session_event(answer) {
-            return pass.tell(board, desk);
-        }
-        let number = core.events();
-        let event = Answered {
-            number,
-            ask: asked,
             answer: Snapshot::of(answer),
-            work: Snapshot::of(work),
+            left: Snapshot::of(left),
             pair: core.pair(),
         };
-        tell_answered(pass, board, desk, &event);
+        tell_event::<B, R, M, E>(pass, board, desk, &event);
+        true
     }
 
     /// Whether the mainframe would hold the session's `*OPC?` now: a scan runs, or others have a lock.

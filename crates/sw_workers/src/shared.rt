@@ -5,7 +5,6 @@ ghost use Rattle.std.specs.Vec.{vec_capacity};
 ghost use Rattle.sw_base.specs.Limits.{most_slots};
 ghost use Rattle.sw_cage.specs.Accounts.{accounts_of};
 ghost use Rattle.sw_core.specs.Opening.{IsFresh};
-ghost use Rattle.sw_core.specs.Seen.{ask_seen, answer_seen, work_seen, AskSession, SaysSession};
 ghost use Rattle.sw_session.specs.CoreDesk.{piece_seen};
 ghost use Rattle.sw_workers.specs.Closing.{IsClosedDown};
 ghost use Rattle.sw_workers.specs.History.{pair_of};
@@ -19,6 +18,7 @@ use crate::available::AvailableRows;
 use crate::board::{BlankBoard, StatusBoard};
 use crate::closing::{Closed, gather, take_cards};
 use crate::desk::SharedDesk;
+use crate::event_kind::EventKind;
 use crate::gate::Gate;
 use crate::held::{DeskPart, Held, Mainframe};
 use crate::note::Note;
@@ -34,7 +34,7 @@ use std::sync::ledger::Blank;
 use std::sync::{Arc, Condvar, Mutex, Wait};
 use std::time::{Clock, Duration};
 use sw_card::{Card, Meter, Relay};
-use sw_core::{Answer, Ask, Core, SessionAnswer, SessionAsk, Sid, Work, runs_go_on};
+use sw_core::{Core, Sid, Work, runs_go_on};
 use sw_session::{Seating, View};
 
 /// How many parts a ledger has.
@@ -227,47 +227,26 @@ impl<H: Mainframe, R: Relay, M: Meter, G: Gate + Drop> Shared<H, R, M, G> {
         self.held.lock(rt).new_part()
     }
 
-    /// Makes an ask that no session makes, under the lock. If it changes the turn, it wakes the threads that wait. It
-    /// gives the turn after the ask too.
-    pub fn act<W: Wait>(
-        &self,
-        rt: &W,
-        part: &mut DeskPart<H>,
-        ask: Ask<R, M>,
-    ) -> (Answer<R, M>, u64)
-        ensures { AsksOnce H.first (ask_seen ask) (answer_seen result.0) part.old part.new }
-    {
-        let mut guard = lock_soon(&self.held, rt);
-        let before = guard.turn();
-        let answer = guard.act(part, ask);
-        let turn = guard.turn();
-        drop(guard);
-        if turn != before {
-            self.happened.notify_all();
-        }
-        (answer, turn)
-    }
-
-    /// Makes a session's ask under the lock, as `act` does, and gives the turn after it. `seating`: how the ask is to
-    /// change which sessions have joined; the notes of available messages follow that. It leaves the answer in
-    /// `answer`, and in `work` what the scan awaits now.
+    /// Makes an ask of any kind under the lock, and gives the turn after it. If it changes the turn, it wakes the
+    /// threads that wait. `seating`: how the ask is to change which sessions have joined; the notes of available
+    /// messages follow that. It leaves the answer in `answer`, and what comes beside it in `left`.
     #[inline(always)]
-    pub fn act_session<W: Wait>(
+    pub fn act<E: EventKind<R, M>, W: Wait>(
         &self,
         rt: &W,
         part: &mut DeskPart<H>,
         seating: Seating,
-        ask: SessionAsk,
-        answer: &mut SessionAnswer,
-        work: &mut Option<Work<M>>,
+        ask: E::Ask,
+        answer: &mut E::Answer,
+        left: &mut E::Left,
     ) -> u64
-        requires { work.old ≡ None }
-        ensures { AsksOnce H.first (AskSession ask) (SaysSession answer.new (work_seen work.new)) part.old part.new }
+        requires { E.is_blank left.old }
+        ensures { AsksOnce H.first (E.asked ask) (E.answered answer.new left.new) part.old part.new }
     {
         let mut guard = lock_soon(&self.held, rt);
         let before = guard.turn();
-        guard.act_session(part, ask, answer, work);
-        self.follow(rt, &guard, seating, answer);
+        guard.act::<E>(part, ask, answer, left);
+        self.follow::<E, W>(rt, &guard, seating, answer);
         let turn = guard.turn();
         drop(guard);
         if turn != before {
@@ -278,17 +257,19 @@ impl<H: Mainframe, R: Relay, M: Meter, G: Gate + Drop> Shared<H, R, M, G> {
 
     /// Follows a session that joins or leaves, while the mainframe is locked.
     #[inline(always)]
-    fn follow<W: Wait>(
+    fn follow<E: EventKind<R, M>, W: Wait>(
         &self,
         rt: &W,
         _locked: &Held<H, R, M>,
         seating: Seating,
-        answer: &SessionAnswer,
+        answer: &E::Answer,
     ) {
         if let Seating::Stays = seating {
             return;
         }
-        self.available.follow(rt, seating, answer);
+        if let Some(answer) = E::session_answer(answer) {
+            self.available.follow(rt, seating, answer);
+        }
     }
 
     /// Ends the scan that runs and opens every relay under one lock, and wakes the threads that wait. It gives the turn
