@@ -35,33 +35,28 @@ pub fn is_word(b: u8) -> bool
 pub fn blanks(bytes: &[u8]) -> (&[u8], &[u8])
     ensures { Spans is_blank bytes.now result.0.now result.1.now }
 {
-    let mut n = 0;
-    while n < bytes.len() && is_blank(bytes[n]) {
-        n += 1;
-    }
-    bytes.split_at(n)
+    bytes.split_at(bytes.iter().take_while(|b| is_blank(**b)).count())
 }
 
 /// The digits at the front, and what follows them.
 pub fn digits(bytes: &[u8]) -> (&[u8], &[u8])
     ensures { Spans is_digit bytes.now result.0.now result.1.now }
 {
-    let mut n = 0;
-    while n < bytes.len() && is_digit(bytes[n]) {
-        n += 1;
-    }
-    bytes.split_at(n)
+    bytes.split_at(bytes.iter().take_while(|b| is_digit(**b)).count())
+}
+
+/// The letters at the front, and what follows them.
+pub fn letters(bytes: &[u8]) -> (&[u8], &[u8])
+    ensures { Spans is_letter bytes.now result.0.now result.1.now }
+{
+    bytes.split_at(bytes.iter().take_while(|b| is_letter(**b)).count())
 }
 
 /// The letters, digits and underscores at the front, and what follows them.
 pub fn words(bytes: &[u8]) -> (&[u8], &[u8])
     ensures { Spans is_word bytes.now result.0.now result.1.now }
 {
-    let mut n = 0;
-    while n < bytes.len() && is_word(bytes[n]) {
-        n += 1;
-    }
-    bytes.split_at(n)
+    bytes.split_at(bytes.iter().take_while(|b| is_word(**b)).count())
 }
 
 /// The bytes before the first `mark` and those after it.
@@ -69,14 +64,8 @@ pub fn split_once(bytes: &[u8], mark: u8) -> Option<(&[u8], &[u8])>
     ensures found { IfSome result (λ x. Lacks mark x.0.now × (bytes.now ≡ x.0.now ++ mark ∷ x.1.now)) }
     ensures none { IfNone result (Lacks mark bytes.now) }
 {
-    let mut n = 0;
-    while n < bytes.len() {
-        if bytes[n] == mark {
-            return Some((&bytes[..n], &bytes[n + 1..]));
-        }
-        n += 1;
-    }
-    None
+    let n = bytes.iter().position(|b| *b == mark)?;
+    Some((&bytes[..n], &bytes[n + 1..]))
 }
 
 /// What follows the mark, where the bytes begin with it.
@@ -88,15 +77,4 @@ pub fn strip_prefix(bytes: &[u8], mark: u8) -> Option<&[u8]>
         [first, rest @ ..] => { if *first == mark { Some(rest) } else { None } }
         [] => None,
     }
-}
-
-/// The letters at the front, and what follows them.
-pub fn letters(bytes: &[u8]) -> (&[u8], &[u8])
-    ensures { Spans is_letter bytes.now result.0.now result.1.now }
-{
-    let mut n = 0;
-    while n < bytes.len() && is_letter(bytes[n]) {
-        n += 1;
-    }
-    bytes.split_at(n)
 }

@@ -1,14 +1,15 @@
-//! What every layer of the mainframe uses: limits, channels, errors, runs of bytes, numbers and readings, and lists
-//! that a value owns.
+//! What every layer of the mainframe uses: limits, channels, errors, runs of bytes, numbers and readings, lists that a
+//! value owns, and values in boxes.
 //!
 //! The crate's contract to the layers above: an error has one number, one text and one event bit; a channel is a pair
 //! of numbers in its range; a run of bytes is the longest; a text is one number with one rounded value, or has one
 //! refusal; the text of a reading determines it. Its `specs/` have the words that several layers share: the
 //! layout of a cage by slot, a present channel, a clash of two channels over all slots.
 //!
-//! It takes no memory, and promises nothing of when a layer above uses which error.
+//! It takes no memory but for boxes, and promises nothing of when a layer above uses which error.
 #![tactic(auto)]
 
+mod boxed;
 mod bytes;
 mod chan;
 mod error;
@@ -18,6 +19,7 @@ mod reading;
 mod sequence;
 mod terms;
 
+pub use boxed::Boxed;
 pub use bytes::{
     blanks, digits, is_blank, is_digit, is_letter, is_word, letters, split_once, strip_prefix,
     words,

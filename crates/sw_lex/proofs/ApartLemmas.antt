@@ -3,7 +3,7 @@ use Rattle.std.proofs.Common.{◌≡◌, ℕ, Bool, true, false, not, List, [], 
 use Rattle.std.specs.Prelude.{◌==◌, ◌&&◌, ◌||◌}
 use Rattle.std.proofs.lemmas.Bool.{and_parts, eq-eqb, eqb-true, cases_Bool}
 use Rattle.sw_lex.specs.Table.{HeaderEntry, table, entries}
-use Rattle.sw_lex.specs.declared.table.Key.{Key}
+use Rattle.sw_lex.specs.declared.table.HeaderMeaning.{HeaderMeaning}
 use Rattle.sw_lex.specs.Found.{IsIn, Spelling, spellings, IsFound}
 use Rattle.sw_lex.proofs.SpelledLemmas.{all_short, all_fit}
 use Rattle.sw_lex.specs.Apart.{same_word, same_words, lacks_words, disjoint, one_number, numbers_agree, same_bool, apart_from, all_apart}
@@ -132,7 +132,7 @@ one_entry (x ∷ es) t r q ws k m h g e a b =
       ]
     ]
 
-pub one_found : (es : List HeaderEntry) → all_apart es ≡ true → (ws : List (List ℕ)) (query : Bool) (key other : Key) (k m : ℕ) → IsFound es ws query key k
+pub one_found : (es : List HeaderEntry) → all_apart es ≡ true → (ws : List (List ℕ)) (query : Bool) (key other : HeaderMeaning) (k m : ℕ) → IsFound es ws query key k
     → IsFound es ws query other m → (key ≡ other) × (k ≡ m)
 one_found es t ws query key other k m f g =
     let r = one_entry es t f.entry g.entry ws k m f.listed g.listed (f.query_is ∙ sym g.query_is) f.spelled g.spelled in

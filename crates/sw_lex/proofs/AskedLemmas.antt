@@ -17,8 +17,8 @@ use Rattle.sw_lex.specs.Packed.{is_byte, last_bytes, word_of, number_at, groups_
 use Rattle.sw_lex.specs.Headed.{word_number, header_nodes, header_numbers, header_bytes, header_part, first_word, first_or}
 use Rattle.sw_lex.specs.Parts.{part_of, belongs}
 use Rattle.sw_lex.specs.Rows.{entries_of}
-use Rattle.sw_lex.specs.declared.rows.Group.{Group}
-use Rattle.sw_lex.specs.declared.table.Key.{Key}
+use Rattle.sw_lex.specs.declared.rows.Subsystem.{Subsystem}
+use Rattle.sw_lex.specs.declared.table.HeaderMeaning.{HeaderMeaning}
 use Rattle.sw_lex.specs.Found.{IsFound}
 use Rattle.sw_lex.proofs.PackedLemmas.{last_packed, last_length, last_pass}
 use Rattle.sw_lex.proofs.PartsLemmas.{nothing_there}
@@ -167,14 +167,14 @@ path_part h (n ∷ ns) letter all s p l =
 
 -- ---- a header that was found
 
-few_found : (ws : Nodes) (query : Bool) (key : Key) (k : ℕ) → IsFound entries ws query key k → length ws ≤ 4
+few_found : (ws : Nodes) (query : Bool) (key : HeaderMeaning) (k : ℕ) → IsFound entries ws query key k → length ws ≤ 4
 few_found ws query key k f =
     elim (cases_Bool (nat_le (length ws) 4)) [
       | inl l ↦ grind (arith, common_steps, l)
       | inr l ↦ absurd (too_long entries ws entries_short (grind (arith, common_steps, l)) query key k f)
     ]
 
-some_found : (ws : Nodes) (query : Bool) (key : Key) (k : ℕ) → IsFound entries ws query key k → 0 < length ws
+some_found : (ws : Nodes) (query : Bool) (key : HeaderMeaning) (k : ℕ) → IsFound entries ws query key k → 0 < length ws
 some_found [] query key k f = absurd (nothing_there query key k f)
 some_found (w ∷ ws) query key k f = omega arith
 
@@ -201,7 +201,7 @@ pub record Entered (all : Nodes) (kept : List ℕ) : Type 0 where
   pub some : 0 < length kept
   pub few : length kept ≤ 4
 
-pub entered : (all : Nodes) (kept : List ℕ) (query : Bool) (key : Key) (k : ℕ) → AreNumbersOf (take 5 (capitals all)) kept
+pub entered : (all : Nodes) (kept : List ℕ) (query : Bool) (key : HeaderMeaning) (k : ℕ) → AreNumbersOf (take 5 (capitals all)) kept
     → IsFound entries (capitals all) query key k → Entered all kept
 entered all kept query key k a f =
     let few = few_found (capitals all) query key k f in
@@ -293,10 +293,10 @@ kept_whole ws ns a l =
     subst (λ (vs : Nodes). AreNumbersOf vs ns) (take_all 5 ws (omega (arith, t))) a
 
 -- where a header is found, or is not
-abbrev pub AreRows : List Group → Nodes → Bool → Type 0
+abbrev pub AreRows : List Subsystem → Nodes → Bool → Type 0
 AreRows groups ws query = entries_of groups ≡ filter (belongs (part_of (first_word ws)) query) entries
 
-pub kept_some : (groups : List Group) (ns : List ℕ) (o : Option (Key × ℕ)) → length ns ≤ 4
+pub kept_some : (groups : List Subsystem) (ns : List ℕ) (o : Option (HeaderMeaning × ℕ)) → length ns ≤ 4
     → IfSome o (λ x. (query : Bool) (ws : Nodes) → AreNumbersOf ws ns → AreRows groups ws query → groups_packed groups ≡ true → IsFound entries ws query x.0
     x.1)
     → IfSome o (λ x. (query : Bool) (ws : Nodes) → AreNumbersOf (take 5 ws) ns → AreRows groups ws query → groups_packed groups ≡ true
@@ -304,25 +304,25 @@ pub kept_some : (groups : List Group) (ns : List ℕ) (o : Option (Key × ℕ)) 
 kept_some groups ns None l h = h
 kept_some groups ns (Some x) l h = λ query ws a. h query ws (kept_whole ws ns a l)
 
-pub kept_none : (groups : List Group) (ns : List ℕ) (o : Option (Key × ℕ)) → length ns ≤ 4
-    → IfNone o ((query : Bool) (ws : Nodes) → AreNumbersOf ws ns → AreRows groups ws query → groups_packed groups ≡ true → (key : Key) (k : ℕ)
+pub kept_none : (groups : List Subsystem) (ns : List ℕ) (o : Option (HeaderMeaning × ℕ)) → length ns ≤ 4
+    → IfNone o ((query : Bool) (ws : Nodes) → AreNumbersOf ws ns → AreRows groups ws query → groups_packed groups ≡ true → (key : HeaderMeaning) (k : ℕ)
     → IsFound entries ws query key k → ⊥)
-    → IfNone o ((query : Bool) (ws : Nodes) → AreNumbersOf (take 5 ws) ns → AreRows groups ws query → groups_packed groups ≡ true → (key : Key) (k : ℕ)
+    → IfNone o ((query : Bool) (ws : Nodes) → AreNumbersOf (take 5 ws) ns → AreRows groups ws query → groups_packed groups ≡ true → (key : HeaderMeaning) (k : ℕ)
     → IsFound entries ws query key k → ⊥)
 kept_none groups ns None l h = λ query ws a. h query ws (kept_whole ws ns a l)
 kept_none groups ns (Some x) l h = h
 
-pub kept_many : (ws : Nodes) (ns : List ℕ) (query : Bool) → 4 < length ns → AreNumbersOf (take 5 ws) ns → (key : Key) (k : ℕ)
+pub kept_many : (ws : Nodes) (ns : List ℕ) (query : Bool) → 4 < length ns → AreNumbersOf (take 5 ws) ns → (key : HeaderMeaning) (k : ℕ)
     → IsFound entries ws query key k → ⊥
 kept_many ws ns query l a =
     too_long entries ws entries_short (omega (arith, as_many (take 5 ws) ns a, l, length-take 5 ws)) query
 
 -- the rows among which a header is looked up
-pub rows_at : (groups : List Group) (ws : Nodes) (query : Bool) (part : Bool × ℕ) → part_of (first_word ws) ≡ part
+pub rows_at : (groups : List Subsystem) (ws : Nodes) (query : Bool) (part : Bool × ℕ) → part_of (first_word ws) ≡ part
     → entries_of groups ≡ filter (belongs part query) entries → AreRows groups ws query
 rows_at groups ws query part e w = subst (λ (p : Bool × ℕ). entries_of groups ≡ filter (belongs p query) entries) (sym e) w
 
-pub found_at : (groups : List Group) (ns : List ℕ) (ws : Nodes) (query : Bool) (o : Option (Key × ℕ)) → AreNumbersOf (take 5 ws) ns → AreRows groups ws query
+pub found_at : (groups : List Subsystem) (ns : List ℕ) (ws : Nodes) (query : Bool) (o : Option (HeaderMeaning × ℕ)) → AreNumbersOf (take 5 ws) ns → AreRows groups ws query
     → groups_packed groups ≡ true
     → IfSome o (λ x. (query : Bool) (ws : Nodes) → AreNumbersOf (take 5 ws) ns → AreRows groups ws query → groups_packed groups ≡ true
     → IsFound entries ws query x.0 x.1)
@@ -330,11 +330,11 @@ pub found_at : (groups : List Group) (ns : List ℕ) (ws : Nodes) (query : Bool)
 found_at groups ns ws query None a e p h = h
 found_at groups ns ws query (Some x) a e p h = h query ws a e p
 
-pub absent_at : (groups : List Group) (ns : List ℕ) (ws : Nodes) (query : Bool) (o : Option (Key × ℕ)) → AreNumbersOf (take 5 ws) ns → AreRows groups ws query
+pub absent_at : (groups : List Subsystem) (ns : List ℕ) (ws : Nodes) (query : Bool) (o : Option (HeaderMeaning × ℕ)) → AreNumbersOf (take 5 ws) ns → AreRows groups ws query
     → groups_packed groups ≡ true
-    → IfNone o ((query : Bool) (ws : Nodes) → AreNumbersOf (take 5 ws) ns → AreRows groups ws query → groups_packed groups ≡ true → (key : Key) (k : ℕ)
+    → IfNone o ((query : Bool) (ws : Nodes) → AreNumbersOf (take 5 ws) ns → AreRows groups ws query → groups_packed groups ≡ true → (key : HeaderMeaning) (k : ℕ)
     → IsFound entries ws query key k → ⊥)
-    → IfNone o ((key : Key) (k : ℕ) → IsFound entries ws query key k → ⊥)
+    → IfNone o ((key : HeaderMeaning) (k : ℕ) → IsFound entries ws query key k → ⊥)
 absent_at groups ns ws query None a e p h = h query ws a e p
 absent_at groups ns ws query (Some x) a e p h = h
 

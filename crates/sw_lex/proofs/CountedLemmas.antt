@@ -8,12 +8,12 @@ use Rattle.std.proofs.lemmas.Bool.{and_parts, eqb-true}
 use Rattle.std.proofs.lemmas.Grind.{common_steps}
 use Rattle.std.proofs.lemmas.List.{take_all}
 use Rattle.sw_base.specs.Text.{AllPass}
-use Rattle.sw_lex.specs.declared.table.Key.{Key}
-use Rattle.sw_lex.specs.declared.packing.Form.{Form}
+use Rattle.sw_lex.specs.declared.table.HeaderMeaning.{HeaderMeaning}
+use Rattle.sw_lex.specs.declared.packing.Mnemonic.{Mnemonic}
 use Rattle.sw_lex.specs.declared.rows.HeaderNode.{HeaderNode}
 use Rattle.sw_lex.specs.declared.rows.HeaderNode.TheVariants.{Must, May, Numbered}
 use Rattle.sw_lex.specs.declared.rows.Row.{Row}
-use Rattle.sw_lex.specs.declared.rows.Group.{Group}
+use Rattle.sw_lex.specs.declared.rows.Subsystem.{Subsystem}
 use Rattle.sw_lex.specs.Table.{entries}
 use Rattle.sw_lex.specs.Words.{short_of, long_of}
 use Rattle.sw_lex.specs.Found.{IsForm, IsNumbered, Fits, IsFound}
@@ -42,10 +42,10 @@ number_has most n word h =
       bytes = all_pass is_byte word q.1;
     }
 
-abbrev HasBoth : ℕ → Form → Type 0
+abbrev HasBoth : ℕ → Mnemonic → Type 0
 HasBoth most form = HasNumber most form.short (short_of form.text.now) × HasNumber most form.long (long_of form.text.now)
 
-form_has : (most : ℕ) (form : Form) → is_packed most form ≡ true → HasBoth most form
+form_has : (most : ℕ) (form : Mnemonic) → is_packed most form ≡ true → HasBoth most form
 form_has most form h =
     let p = and_parts (is_number most form.short (short_of form.text.now)) (is_number most form.long (long_of form.text.now)) h in
     (number_has most _ _ p.0, number_has most _ _ p.1)
@@ -53,18 +53,18 @@ form_has most form h =
 looser : (n : ℕ) (word : List ℕ) → HasNumber 11 n word → HasNumber 12 n word
 looser n word h = record { number = h.number; short = omega (arith, h.short); bytes = h.bytes }
 
-both_looser : (form : Form) → HasBoth 11 form → HasBoth 12 form
+both_looser : (form : Mnemonic) → HasBoth 11 form → HasBoth 12 form
 both_looser form h = (looser _ _ h.0, looser _ _ h.1)
 
-form_yes : (form : Form) (w : List ℕ) (n : ℕ) → HasBoth 12 form → IsNumberOf w n → IsFormNumber form n → IsForm form.text.now w
+form_yes : (form : Mnemonic) (w : List ℕ) (n : ℕ) → HasBoth 12 form → IsNumberOf w n → IsFormNumber form n → IsForm form.text.now w
 form_yes form w n h i f =
     elim f [ inl e ↦ inl (number_yes w _ n form.short h.0 i e) | inr e ↦ inr (number_yes w _ n form.long h.1 i e) ]
 
-form_so : (form : Form) (w : List ℕ) (n : ℕ) → HasBoth 12 form → IsNumberOf w n → IsForm form.text.now w → IsFormNumber form n
+form_so : (form : Mnemonic) (w : List ℕ) (n : ℕ) → HasBoth 12 form → IsNumberOf w n → IsForm form.text.now w → IsFormNumber form n
 form_so form w n h i f =
     elim f [ inl e ↦ inl (number_so w _ n form.short h.0 i e) | inr e ↦ inr (number_so w _ n form.long h.1 i e) ]
 
-numbered_yes : (form : Form) (w : List ℕ) (n k : ℕ) → HasBoth 11 form → IsNumberOf w n → IsNumberedForm form k n → IsNumbered form.text.now k w
+numbered_yes : (form : Mnemonic) (w : List ℕ) (n k : ℕ) → HasBoth 11 form → IsNumberOf w n → IsNumberedForm form k n → IsNumbered form.text.now k w
 numbered_yes form w n k h i f = (
   f.0,
   f.1,
@@ -74,7 +74,7 @@ numbered_yes form w n k h i f = (
   ],
 )
 
-numbered_so : (form : Form) (w : List ℕ) (n k : ℕ) → HasBoth 11 form → IsNumberOf w n → IsNumbered form.text.now k w → IsNumberedForm form k n
+numbered_so : (form : Mnemonic) (w : List ℕ) (n k : ℕ) → HasBoth 11 form → IsNumberOf w n → IsNumbered form.text.now k w → IsNumberedForm form k n
 numbered_so form w n k h i f =
     elim f.2 [
       | inl e ↦
@@ -162,7 +162,7 @@ fit_so (Numbered form ∷ nodes) (w ∷ ws) (n ∷ ns) k h i f =
 
 -- ---- the rows, and the groups
 
-row_yes : (rows : List Row) (ws : List (List ℕ)) (ns : List ℕ) (query : Bool) (key : Key) (k : ℕ) → rows_packed rows ≡ true → AreNumbersOf ws ns
+row_yes : (rows : List Row) (ws : List (List ℕ)) (ns : List ℕ) (query : Bool) (key : HeaderMeaning) (k : ℕ) → rows_packed rows ≡ true → AreNumbersOf ws ns
     → RowNumbers rows ns query key k → MatchesRow rows ws query key k
 row_yes [] ws ns query key k h i m = absurd m
 row_yes (row ∷ rows) ws ns query key k h i m =
@@ -172,7 +172,7 @@ row_yes (row ∷ rows) ws ns query key k h i m =
       | inr b ↦ inr (row_yes rows ws ns query key k p.1 i b)
     ]
 
-row_so : (rows : List Row) (ws : List (List ℕ)) (ns : List ℕ) (query : Bool) (key : Key) (k : ℕ) → rows_packed rows ≡ true → AreNumbersOf ws ns
+row_so : (rows : List Row) (ws : List (List ℕ)) (ns : List ℕ) (query : Bool) (key : HeaderMeaning) (k : ℕ) → rows_packed rows ≡ true → AreNumbersOf ws ns
     → MatchesRow rows ws query key k → RowNumbers rows ns query key k
 row_so [] ws ns query key k h i m = absurd m
 row_so (row ∷ rows) ws ns query key k h i m =
@@ -182,7 +182,7 @@ row_so (row ∷ rows) ws ns query key k h i m =
       | inr b ↦ inr (row_so rows ws ns query key k p.1 i b)
     ]
 
-pub groups_yes : (groups : List Group) (w : List ℕ) (ws : List (List ℕ)) (n : ℕ) (ns : List ℕ) (query : Bool) (key : Key) (k : ℕ)
+pub groups_yes : (groups : List Subsystem) (w : List ℕ) (ws : List (List ℕ)) (n : ℕ) (ns : List ℕ) (query : Bool) (key : HeaderMeaning) (k : ℕ)
     → groups_packed groups ≡ true → IsNumberOf w n → AreNumbersOf ws ns → GroupNumbers groups n ns query key k → Matches groups w ws query key k
 groups_yes [] w ws n ns query key k h j i m = absurd m
 groups_yes (group ∷ groups) w ws n ns query key k h j i m =
@@ -193,7 +193,7 @@ groups_yes (group ∷ groups) w ws n ns query key k h j i m =
       | inr b ↦ inr (groups_yes groups w ws n ns query key k p.1 j i b)
     ]
 
-pub groups_so : (groups : List Group) (w : List ℕ) (ws : List (List ℕ)) (n : ℕ) (ns : List ℕ) (query : Bool) (key : Key) (k : ℕ)
+pub groups_so : (groups : List Subsystem) (w : List ℕ) (ws : List (List ℕ)) (n : ℕ) (ns : List ℕ) (query : Bool) (key : HeaderMeaning) (k : ℕ)
     → groups_packed groups ≡ true → IsNumberOf w n → AreNumbersOf ws ns → Matches groups w ws query key k → GroupNumbers groups n ns query key k
 groups_so [] w ws n ns query key k h j i m = absurd m
 groups_so (group ∷ groups) w ws n ns query key k h j i m =
@@ -206,17 +206,17 @@ groups_so (group ∷ groups) w ws n ns query key k h j i m =
 
 -- ---- the table
 
-some_at : (groups : List Group) (w : List ℕ) (ws : List (List ℕ)) (n : ℕ) (ns : List ℕ) (query : Bool) (o : Option (Key × ℕ)) → AreNumbersOf (w ∷ ws) (n ∷ ns)
+some_at : (groups : List Subsystem) (w : List ℕ) (ws : List (List ℕ)) (n : ℕ) (ns : List ℕ) (query : Bool) (o : Option (HeaderMeaning × ℕ)) → AreNumbersOf (w ∷ ws) (n ∷ ns)
     → entries_of groups ≡ filter (belongs (part_of w) query) entries → groups_packed groups ≡ true
     → IfSome o (λ x. (q : Bool) × GroupNumbers groups n ns q x.0 x.1) → IfSome o (λ x. IsFound entries (w ∷ ws) query x.0 x.1)
 some_at groups w ws n ns query None a e p h = h
 some_at groups w ws n ns query (Some x) a e p h =
     some_there (part_of w) groups w ws query (Some x) e (h.0, groups_yes groups w ws n ns h.0 x.0 x.1 p a.0 a.1 h.1)
 
-none_at : (groups : List Group) (w : List ℕ) (ws : List (List ℕ)) (n : ℕ) (ns : List ℕ) (query : Bool) (o : Option (Key × ℕ)) → AreNumbersOf (w ∷ ws) (n ∷ ns)
+none_at : (groups : List Subsystem) (w : List ℕ) (ws : List (List ℕ)) (n : ℕ) (ns : List ℕ) (query : Bool) (o : Option (HeaderMeaning × ℕ)) → AreNumbersOf (w ∷ ws) (n ∷ ns)
     → entries_of groups ≡ filter (belongs (part_of w) query) entries → groups_packed groups ≡ true
-    → IfNone o ((q : Bool) (key : Key) (k : ℕ) → GroupNumbers groups n ns q key k → ⊥)
-    → IfNone o ((key : Key) (k : ℕ) → IsFound entries (w ∷ ws) query key k → ⊥)
+    → IfNone o ((q : Bool) (key : HeaderMeaning) (k : ℕ) → GroupNumbers groups n ns q key k → ⊥)
+    → IfNone o ((key : HeaderMeaning) (k : ℕ) → IsFound entries (w ∷ ws) query key k → ⊥)
 none_at groups w ws n ns query None a e p h =
     none_there groups w ws query None e (λ q key k m. h q key k (groups_so groups w ws n ns q key k p a.0 a.1 m))
 none_at groups w ws n ns query (Some x) a e p h = h
@@ -224,19 +224,19 @@ none_at groups w ws n ns query (Some x) a e p h = h
 rest_is : (n : ℕ) (ns : List ℕ) → take (length (n ∷ ns) - 1) ns ≡ ns
 rest_is n ns = take_all (length (n ∷ ns) - 1) ns (omega arith)
 
-found_at : (groups : List Group) (ws : List (List ℕ)) (n : ℕ) (ns : List ℕ) (query : Bool) (x : Key × ℕ) → AreNumbersOf ws (n ∷ ns)
+found_at : (groups : List Subsystem) (ws : List (List ℕ)) (n : ℕ) (ns : List ℕ) (query : Bool) (x : HeaderMeaning × ℕ) → AreNumbersOf ws (n ∷ ns)
     → entries_of groups ≡ filter (belongs (part_of (first_word ws)) query) entries → groups_packed groups ≡ true
     → (q : Bool) × GroupNumbers groups n ns q x.0 x.1 → IsFound entries ws query x.0 x.1
 found_at groups [] n ns query x a e p h = absurd a
 found_at groups (w ∷ ws) n ns query x a e p h = some_at groups w ws n ns query (Some x) a e p h
 
-missed_at : (groups : List Group) (ws : List (List ℕ)) (n : ℕ) (ns : List ℕ) (query : Bool) → AreNumbersOf ws (n ∷ ns)
+missed_at : (groups : List Subsystem) (ws : List (List ℕ)) (n : ℕ) (ns : List ℕ) (query : Bool) → AreNumbersOf ws (n ∷ ns)
     → entries_of groups ≡ filter (belongs (part_of (first_word ws)) query) entries → groups_packed groups ≡ true
-    → ((q : Bool) (key : Key) (k : ℕ) → GroupNumbers groups n ns q key k → ⊥) → (key : Key) (k : ℕ) → IsFound entries ws query key k → ⊥
+    → ((q : Bool) (key : HeaderMeaning) (k : ℕ) → GroupNumbers groups n ns q key k → ⊥) → (key : HeaderMeaning) (k : ℕ) → IsFound entries ws query key k → ⊥
 missed_at groups [] n ns query a e p h = absurd a
 missed_at groups (w ∷ ws) n ns query a e p h = none_at groups w ws n ns query None a e p h
 
-pub found_some : (groups : List Group) (ns : List ℕ) (c : ℕ) (o : Option (Key × ℕ)) → 1 ≤ length ns
+pub found_some : (groups : List Subsystem) (ns : List ℕ) (c : ℕ) (o : Option (HeaderMeaning × ℕ)) → 1 ≤ length ns
     → IfSome o (λ x. (q : Bool) × GroupNumbers groups (get_or ns 0 c) (take (length ns - 1) (drop 1 ns)) q x.0 x.1)
     → IfSome o (λ x. (query : Bool) (ws : List (List ℕ)) → AreNumbersOf ws ns → entries_of groups ≡ filter (belongs (part_of (first_word ws)) query) entries
     → groups_packed groups ≡ true → IsFound entries ws query x.0 x.1)
@@ -247,17 +247,17 @@ found_some groups (n ∷ ns) c (Some x) m h = λ query ws a e p. found_at groups
   subst (λ (y : List ℕ). GroupNumbers groups n y h.0 x.0 x.1) (rest_is n ns) h.1,
 )
 
-pub found_none : (groups : List Group) (ns : List ℕ) (c : ℕ) (o : Option (Key × ℕ)) → 1 ≤ length ns
-    → IfNone o ((q : Bool) (key : Key) (k : ℕ) → GroupNumbers groups (get_or ns 0 c) (take (length ns - 1) (drop 1 ns)) q key k → ⊥)
+pub found_none : (groups : List Subsystem) (ns : List ℕ) (c : ℕ) (o : Option (HeaderMeaning × ℕ)) → 1 ≤ length ns
+    → IfNone o ((q : Bool) (key : HeaderMeaning) (k : ℕ) → GroupNumbers groups (get_or ns 0 c) (take (length ns - 1) (drop 1 ns)) q key k → ⊥)
     → IfNone o ((query : Bool) (ws : List (List ℕ)) → AreNumbersOf ws ns → entries_of groups ≡ filter (belongs (part_of (first_word ws)) query) entries
-    → groups_packed groups ≡ true → (key : Key) (k : ℕ) → IsFound entries ws query key k → ⊥)
+    → groups_packed groups ≡ true → (key : HeaderMeaning) (k : ℕ) → IsFound entries ws query key k → ⊥)
 found_none groups [] c o m h = absurd (omega (arith, m))
 found_none groups (n ∷ ns) c None m h =
     λ query ws a e p. missed_at groups ws n ns query a e p
-    (subst (λ (y : List ℕ). (q : Bool) (key : Key) (k : ℕ) → GroupNumbers groups n y q key k → ⊥) (rest_is n ns) h)
+    (subst (λ (y : List ℕ). (q : Bool) (key : HeaderMeaning) (k : ℕ) → GroupNumbers groups n y q key k → ⊥) (rest_is n ns) h)
 found_none groups (n ∷ ns) c (Some x) m h = h
 
-pub nothing_of : (ws : List (List ℕ)) (ns : List ℕ) (query : Bool) → length ns < 1 → AreNumbersOf ws ns → (key : Key) (k : ℕ) → IsFound entries ws query key k →
+pub nothing_of : (ws : List (List ℕ)) (ns : List ℕ) (query : Bool) → length ns < 1 → AreNumbersOf ws ns → (key : HeaderMeaning) (k : ℕ) → IsFound entries ws query key k →
     ⊥
 nothing_of [] ns query l a key k f = nothing_there query key k f
 nothing_of (w ∷ ws) [] query l a key k f = a
@@ -272,12 +272,12 @@ first_up : (ws : List (Bor (List ℕ))) (d : Bor (List ℕ)) → 1 ≤ length ws
 first_up [] d l = absurd (omega (arith, l))
 first_up (w ∷ ws) d l = refl
 
-rows_there : (groups : List Group) (ws : List (Bor (List ℕ))) (d : Bor (List ℕ)) (query : Bool) → 1 ≤ length ws
+rows_there : (groups : List Subsystem) (ws : List (Bor (List ℕ))) (d : Bor (List ℕ)) (query : Bool) → 1 ≤ length ws
     → entries_of groups ≡ filter (belongs (part_of (map to_ascii_uppercase (get_or ws 0 d).now)) query) entries
     → entries_of groups ≡ filter (belongs (part_of (first_word (words_up ws))) query) entries
 rows_there groups ws d query l e = subst (λ (w : List ℕ). entries_of groups ≡ filter (belongs (part_of w) query) entries) (first_up ws d l) e
 
-pub words_some : (groups : List Group) (ws : List (Bor (List ℕ))) (d : Bor (List ℕ)) (ns : List ℕ) (query : Bool) (o : Option (Key × ℕ)) → 1 ≤ length ws
+pub words_some : (groups : List Subsystem) (ws : List (Bor (List ℕ))) (d : Bor (List ℕ)) (ns : List ℕ) (query : Bool) (o : Option (HeaderMeaning × ℕ)) → 1 ≤ length ws
     → AreNumbersOf (words_up ws) ns → entries_of groups ≡ filter (belongs (part_of (map to_ascii_uppercase (get_or ws 0 d).now)) query) entries
     → groups_packed groups ≡ true
     → IfSome o (λ x. (query : Bool) (ws : List (List ℕ)) → AreNumbersOf ws ns → entries_of groups ≡ filter (belongs (part_of (first_word ws)) query) entries
@@ -285,11 +285,11 @@ pub words_some : (groups : List Group) (ws : List (Bor (List ℕ))) (d : Bor (Li
 words_some groups ws d ns query None l a e p h = h
 words_some groups ws d ns query (Some x) l a e p h = h query (words_up ws) a (rows_there groups ws d query l e) p
 
-pub words_none : (groups : List Group) (ws : List (Bor (List ℕ))) (d : Bor (List ℕ)) (ns : List ℕ) (query : Bool) (o : Option (Key × ℕ)) → 1 ≤ length ws
+pub words_none : (groups : List Subsystem) (ws : List (Bor (List ℕ))) (d : Bor (List ℕ)) (ns : List ℕ) (query : Bool) (o : Option (HeaderMeaning × ℕ)) → 1 ≤ length ws
     → AreNumbersOf (words_up ws) ns → entries_of groups ≡ filter (belongs (part_of (map to_ascii_uppercase (get_or ws 0 d).now)) query) entries
     → groups_packed groups ≡ true
     → IfNone o ((query : Bool) (ws : List (List ℕ)) → AreNumbersOf ws ns → entries_of groups ≡ filter (belongs (part_of (first_word ws)) query) entries
-    → groups_packed groups ≡ true → (key : Key) (k : ℕ) → IsFound entries ws query key k → ⊥)
-    → IfNone o ((key : Key) (k : ℕ) → IsFound entries (words_up ws) query key k → ⊥)
+    → groups_packed groups ≡ true → (key : HeaderMeaning) (k : ℕ) → IsFound entries ws query key k → ⊥)
+    → IfNone o ((key : HeaderMeaning) (k : ℕ) → IsFound entries (words_up ws) query key k → ⊥)
 words_none groups ws d ns query None l a e p h = h query (words_up ws) a (rows_there groups ws d query l e) p
 words_none groups ws d ns query (Some x) l a e p h = h

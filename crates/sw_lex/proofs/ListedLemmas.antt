@@ -1,8 +1,8 @@
 -- What one of the rows matches is found in the table that they are.
 use Rattle.std.proofs.Common.{◌≡◌, ℕ, Bool, List, [], ◌∷◌, map, refl, sym, ap, subst, inl, inr}
-use Rattle.sw_lex.specs.declared.table.Key.{Key}
+use Rattle.sw_lex.specs.declared.table.HeaderMeaning.{HeaderMeaning}
 use Rattle.sw_lex.specs.declared.rows.Row.{Row}
-use Rattle.sw_lex.specs.declared.rows.Group.{Group}
+use Rattle.sw_lex.specs.declared.rows.Subsystem.{Subsystem}
 use Rattle.sw_lex.specs.Table.{Node, must, HeaderEntry}
 use Rattle.sw_lex.specs.Rows.{nodes_at, row_nodes, entry_at, entries_of, MatchesRow, Matches}
 use Rattle.sw_lex.specs.Found.{IsIn, IsForm, Fits, IsFound}
@@ -10,7 +10,7 @@ use Rattle.sw_lex.proofs.SpelledLemmas.{in_left, in_right, in_cases, fits_listed
 
 -- ---- the rows of one group
 
-row_found : (first w : List ℕ) (rows : List Row) (ws : List (List ℕ)) (query : Bool) (key : Key) (k : ℕ) → IsForm first w → MatchesRow rows ws query key k
+row_found : (first w : List ℕ) (rows : List Row) (ws : List (List ℕ)) (query : Bool) (key : HeaderMeaning) (k : ℕ) → IsForm first w → MatchesRow rows ws query key k
     → IsFound (map (entry_at first) rows) (w ∷ ws) query key k
 row_found first w [] ws query key k i m = absurd m
 row_found first w (row ∷ rows) ws query key k i m =
@@ -41,7 +41,7 @@ at_row first w (row ∷ rows) e ws k h f =
 
 -- ---- all of them
 
-pub matches_found : (groups : List Group) (w : List ℕ) (ws : List (List ℕ)) (query : Bool) (key : Key) (k : ℕ) → Matches groups w ws query key k
+pub matches_found : (groups : List Subsystem) (w : List ℕ) (ws : List (List ℕ)) (query : Bool) (key : HeaderMeaning) (k : ℕ) → Matches groups w ws query key k
     → IsFound (entries_of groups) (w ∷ ws) query key k
 unfolding entries_of
 matches_found [] w ws query key k m = absurd m
@@ -67,7 +67,7 @@ matches_found (group ∷ groups) w ws query key k m =
           }
     ]
 
-at_entry : (groups : List Group) (e : HeaderEntry) (w : List ℕ) (ws : List (List ℕ)) (k : ℕ) → IsIn e (entries_of groups) → Fits e.nodes (w ∷ ws) k
+at_entry : (groups : List Subsystem) (e : HeaderEntry) (w : List ℕ) (ws : List (List ℕ)) (k : ℕ) → IsIn e (entries_of groups) → Fits e.nodes (w ∷ ws) k
     → Matches groups w ws e.query e.key k
 unfolding entries_of
 at_entry [] e w ws k h f = absurd h
@@ -77,9 +77,9 @@ at_entry (group ∷ groups) e w ws k h f =
       | inr b ↦ inr (at_entry groups e w ws k b f)
     ]
 
-pub found_matches : (groups : List Group) (w : List ℕ) (ws : List (List ℕ)) (query : Bool) (key : Key) (k : ℕ)
+pub found_matches : (groups : List Subsystem) (w : List ℕ) (ws : List (List ℕ)) (query : Bool) (key : HeaderMeaning) (k : ℕ)
     → IsFound (entries_of groups) (w ∷ ws) query key k
     → Matches groups w ws query key k
 found_matches groups w ws query key k f =
     let m = at_entry groups f.entry w ws k f.listed (listed_fits f.entry.nodes (w ∷ ws) k f.spelled) in
-    subst (λ (x : Key). Matches groups w ws query x k) f.key_is (subst (λ (b : Bool). Matches groups w ws b f.entry.key k) f.query_is m)
+    subst (λ (x : HeaderMeaning). Matches groups w ws query x k) f.key_is (subst (λ (b : Bool). Matches groups w ws b f.entry.key k) f.query_is m)

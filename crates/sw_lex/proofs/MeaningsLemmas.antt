@@ -9,8 +9,8 @@ use Rattle.sw_lex.specs.declared.command.Command.{Command}
 use Rattle.sw_lex.specs.declared.command.Command.TheVariants as commands
 use Rattle.sw_lex.specs.declared.command.MacroCommand.TheVariants as macros
 use Rattle.sw_lex.specs.declared.command.Setting.TheVariants as settings
-use Rattle.sw_lex.specs.declared.table.Key.{Key}
-use Rattle.sw_lex.specs.declared.table.Key.TheVariants as keys
+use Rattle.sw_lex.specs.declared.table.HeaderMeaning.{HeaderMeaning}
+use Rattle.sw_lex.specs.declared.table.HeaderMeaning.TheVariants as keys
 use Rattle.sw_lex.specs.declared.table.Switch.{Switch}
 use Rattle.sw_code.specs.Range.{Program}
 use Rattle.sw_code.specs.Reading.{code_in}
@@ -275,7 +275,7 @@ one_program : (k : ℕ) (ds : List Datum) (r s : Result Command ScpiError) → D
 one_program k ds r s a b n m =
     one_of_block ReadsProgram one_reads_program (λ code. commands.Set (settings.Program code)) ds r s a.0 b.0 a.1 a.2 b.1 b.2 n m
 
-one_decoded : (key : Key) (k : ℕ) (ds : List Datum) (r s : Result Command ScpiError) → DecodesCommand key k ds r → DecodesCommand key k ds s
+one_decoded : (key : HeaderMeaning) (k : ℕ) (ds : List Datum) (r s : Result Command ScpiError) → DecodesCommand key k ds r → DecodesCommand key k ds s
     → r ≢ Err OutOfMemory
     → s ≢ Err OutOfMemory → r ≡ s
 one_decoded (keys.Plain ask) k ds r s a b n m = one_none (commands.Plain ask) ds r s a b
@@ -290,7 +290,7 @@ one_decoded keys.Scan k ds r s a b n m = one_of_list ReadsPositions one_position
 one_decoded keys.Program k ds r s a b n m = one_program k ds r s a b n m
 one_decoded keys.NoProgram k ds r s a b n m = one_none (commands.Set settings.NoProgram) ds r s a b
 one_decoded keys.ScanCheck k ds r s a b n m = one_of_check ds r s a b n m
-one_decoded (keys.Whole ask) k ds r s a b n m = one_of_number (whole_of ask k) ds r s a b
+one_decoded (keys.Numeric ask) k ds r s a b n m = one_of_number (whole_of ask k) ds r s a b
 one_decoded (keys.Time kind family) k ds r s a b n m = one_of_number (time_of kind (layer_numbered family k)) ds r s a b
 one_decoded (keys.Source family) k ds r s a b n m = one_of_word (source_meant (layer_numbered family k)) ds r s a b
 one_decoded (keys.Switch ask) k ds r s a b n m = one_of_switch ask ds r s a b
@@ -307,7 +307,7 @@ one_meaning unit below r s a b p q n m =
         | inl d ↦
             let k = one_found entries entries_apart (asked unit below) unit.query c.key d.key c.number d.number c.found d.found in
             let o : DecodesCommand c.key c.number unit.elements s =
-            subst (λ (x : Key). DecodesCommand x c.number unit.elements s) (sym k.0)
+            subst (λ (x : HeaderMeaning). DecodesCommand x c.number unit.elements s) (sym k.0)
             (subst (λ (x : ℕ). DecodesCommand d.key x unit.elements s) (sym k.1) d.decoded) in
             (one_decoded c.key c.number unit.elements r s c.decoded o n m, c.onward ∙ sym d.onward)
         | inr d ↦ elim d [ inl e ↦ absurd (e.nothing c.key c.number c.found) | inr e ↦ absurd (e.nothing c.key c.number c.found) ]
@@ -333,7 +333,7 @@ every_spelling entry unit below m r left i q s h =
       | inl c ↦
           let k = one_found entries entries_apart (asked unit below) unit.query c.key entry.key c.number m c.found f in (
             subst (λ (x : ℕ). DecodesCommand entry.key x unit.elements r) k.1
-                (subst (λ (x : Key). DecodesCommand x c.number unit.elements r) k.0 c.decoded),
+                (subst (λ (x : HeaderMeaning). DecodesCommand x c.number unit.elements r) k.0 c.decoded),
             c.onward,
           )
       | inr d ↦ elim d [ inl e ↦ absurd (e.nothing entry.key m f) | inr e ↦ absurd (e.nothing entry.key m f) ]

@@ -3,8 +3,8 @@ use Rattle.std.proofs.Common.{◌≡◌, ℕ, Bool, true, false, not, List, [], 
 use Rattle.std.specs.Prelude.{codes, ◌==◌, ◌||◌, IfSome, IfNone}
 use Rattle.std.specs.List.{filter, list_all, list_any}
 use Rattle.std.proofs.lemmas.Bool.{and_parts, cases_Bool, eqb-true, eq-eqb}
-use Rattle.sw_lex.specs.declared.table.Key.{Key}
-use Rattle.sw_lex.specs.declared.rows.Group.{Group}
+use Rattle.sw_lex.specs.declared.table.HeaderMeaning.{HeaderMeaning}
+use Rattle.sw_lex.specs.declared.rows.Subsystem.{Subsystem}
 use Rattle.sw_lex.specs.Table.{HeaderEntry, table, entries}
 use Rattle.sw_lex.specs.Found.{IsIn, Spelling, spellings, IsFound}
 use Rattle.sw_lex.specs.Apart.{same_bool}
@@ -62,7 +62,7 @@ bools_same false false h = refl
 same_part-refl : (p : Bool × ℕ) → same_part p p ≡ true
 same_part-refl p = rw (same_bool-refl p.0) (eq-eqb p.1 p.1 refl)
 
-found_belongs : (w : List ℕ) (ws : List (List ℕ)) (query : Bool) (key : Key) (k : ℕ) (f : IsFound entries (w ∷ ws) query key k)
+found_belongs : (w : List ℕ) (ws : List (List ℕ)) (query : Bool) (key : HeaderMeaning) (k : ℕ) (f : IsFound entries (w ∷ ws) query key k)
     → belongs (part_of w) query f.entry ≡ true
 found_belongs w ws query key k f =
     let q : same_bool query f.entry.query ≡ true = subst (λ (b : Bool). same_bool query b ≡ true) (sym f.query_is) (same_bool-refl query) in
@@ -71,7 +71,7 @@ found_belongs w ws query key k f =
     rw (q, s) refl
 
 -- what the groups of a part match is found
-pub some_there : (part : Bool × ℕ) (groups : List Group) (w : List ℕ) (ws : List (List ℕ)) (query : Bool) (o : Option (Key × ℕ))
+pub some_there : (part : Bool × ℕ) (groups : List Subsystem) (w : List ℕ) (ws : List (List ℕ)) (query : Bool) (o : Option (HeaderMeaning × ℕ))
     → entries_of groups ≡ filter (belongs part query) entries → IfSome o (λ x. (q : Bool) × Matches groups w ws q x.0 x.1)
     → IfSome o (λ x. IsFound entries (w ∷ ws) query x.0 x.1)
 some_there part groups w ws query None e h = h
@@ -81,9 +81,9 @@ some_there part groups w ws query (Some x) e h =
     let b = and_parts (same_bool query f.entry.query) (list_any (λ (s : Spelling). begins_words part s.0) (spellings f.entry.nodes)) i.1 in
     record { entry = f.entry; listed = i.0; query_is = sym (bools_same query f.entry.query b.0); key_is = f.key_is; spelled = f.spelled }
 
-pub none_there : (groups : List Group) (w : List ℕ) (ws : List (List ℕ)) (query : Bool) (o : Option (Key × ℕ))
-    → entries_of groups ≡ filter (belongs (part_of w) query) entries → IfNone o ((q : Bool) (key : Key) (k : ℕ) → Matches groups w ws q key k → ⊥)
-    → IfNone o ((key : Key) (k : ℕ) → IsFound entries (w ∷ ws) query key k → ⊥)
+pub none_there : (groups : List Subsystem) (w : List ℕ) (ws : List (List ℕ)) (query : Bool) (o : Option (HeaderMeaning × ℕ))
+    → entries_of groups ≡ filter (belongs (part_of w) query) entries → IfNone o ((q : Bool) (key : HeaderMeaning) (k : ℕ) → Matches groups w ws q key k → ⊥)
+    → IfNone o ((key : HeaderMeaning) (k : ℕ) → IsFound entries (w ∷ ws) query key k → ⊥)
 none_there groups w ws query None e h =
     λ key k f. h query key k (found_matches groups w ws query key k (record {
       entry = f.entry;
@@ -112,7 +112,7 @@ have_nodes : list_all (λ e. list_all has_node (spellings e.nodes)) entries ≡ 
 unfolding table entries
 have_nodes = refl
 
-pub nothing_there : (query : Bool) (key : Key) (k : ℕ) → IsFound entries [] query key k → ⊥
+pub nothing_there : (query : Bool) (key : HeaderMeaning) (k : ℕ) → IsFound entries [] query key k → ⊥
 nothing_there query key k f =
     let p = in_passes has_node ([], k) (spellings f.entry.nodes)
     (in_passes (λ (e : HeaderEntry). list_all has_node (spellings e.nodes)) f.entry entries have_nodes f.listed) f.spelled in

@@ -8,7 +8,7 @@ use Rattle.sw_base.specs.Text.{is_digit, AllPass, Spans}
 use Rattle.sw_base.specs.Number.{value_of, IsMantissa, IsNumber, IsInLimits, from_first, magnitude, rounded}
 use Rattle.sw_base.specs.declared.error.ScpiError.{ScpiError}
 use Rattle.sw_base.specs.declared.error.ScpiError.TheVariants.{DataOutOfRange}
-use Rattle.sw_lex.specs.declared.table.Whole.{Whole}
+use Rattle.sw_lex.specs.declared.table.Numeric.{Numeric}
 use Rattle.sw_lex.specs.Commands.{of_whole, least, greatest}
 use Rattle.sw_lex.specs.Values.{IsQuantity, digits_written, natural_in, whole_of}
 use Rattle.sw_lex.proofs.NumbersLemmas.{digits_mantissa, over_exponent}
@@ -56,21 +56,21 @@ natural_pos low high v =
       | inr e ↦ rw e refl
     ]
 
-whole_digits : (ask : Whole) (k : ℕ) (digits : List ℕ) → whole_of ask k (digits_written digits) []
+whole_digits : (ask : Numeric) (k : ℕ) (digits : List ℕ) → whole_of ask k (digits_written digits) []
     ≡ result_map_both (λ m. of_whole ask k m) (λ e. e)
     (if nat_le (least ask) (value_of digits) && nat_le (value_of digits) (greatest ask) then Ok (value_of digits) else Err DataOutOfRange)
 whole_digits ask k digits =
     ap (λ (r : Result ℕ ScpiError). result_map_both (λ m. of_whole ask k m) (λ e. e) r)
     (ap (natural_in (least ask) (greatest ask)) (rounded_digits digits) ∙ natural_pos (least ask) (greatest ask) (value_of digits))
 
-pub whole_in : (ask : Whole) (k : ℕ) (digits : List ℕ) → least ask ≤ value_of digits → value_of digits ≤ greatest ask
+pub whole_in : (ask : Numeric) (k : ℕ) (digits : List ℕ) → least ask ≤ value_of digits → value_of digits ≤ greatest ask
     → whole_of ask k (digits_written digits) [] ≡ Ok (of_whole ask k (value_of digits))
 whole_in ask k digits l h = whole_digits ask k digits ∙ rw (le-leb _ _ l, le-leb _ _ h) refl
 
-pub whole_below : (ask : Whole) (k : ℕ) (digits : List ℕ) → value_of digits < least ask → whole_of ask k (digits_written digits) [] ≡ Err DataOutOfRange
+pub whole_below : (ask : Numeric) (k : ℕ) (digits : List ℕ) → value_of digits < least ask → whole_of ask k (digits_written digits) [] ≡ Err DataOutOfRange
 whole_below ask k digits l = whole_digits ask k digits ∙ rw (lt-leb _ _ l) refl
 
-pub whole_above : (ask : Whole) (k : ℕ) (digits : List ℕ) → greatest ask < value_of digits → whole_of ask k (digits_written digits) [] ≡ Err DataOutOfRange
+pub whole_above : (ask : Numeric) (k : ℕ) (digits : List ℕ) → greatest ask < value_of digits → whole_of ask k (digits_written digits) [] ≡ Err DataOutOfRange
 whole_above ask k digits h =
     whole_digits ask k digits ∙ elim (cases_Bool (nat_le (least ask) (value_of digits))) [
       | inl e ↦ rw (e, lt-leb _ _ h) refl

@@ -5,7 +5,7 @@ use Rattle.std.specs.Prelude.{◌==◌}
 use Rattle.std.proofs.lemmas.Bool.{and_parts, cases_Bool, eqb-true, eqb-false}
 use Rattle.std.proofs.lemmas.Grind.{common_steps}
 use Rattle.std.specs.List.{list_all}
-use Rattle.sw_lex.specs.declared.table.Key.{Key}
+use Rattle.sw_lex.specs.declared.table.HeaderMeaning.{HeaderMeaning}
 use Rattle.sw_lex.specs.Words.{short_of, long_of}
 use Rattle.sw_lex.specs.Table.{Node, must, may, numbered, HeaderEntry}
 use Rattle.sw_base.specs.Limits.{most_arm_layers}
@@ -243,7 +243,7 @@ fits_length (numbered w ∷ ss) (x ∷ ws) k f =
       | inr a ↦ elim a [ inl b ↦ omega (arith, fits_length ss ws b.0 b.1) | inr b ↦ omega (arith, fits_length ss (x ∷ ws) k b) ]
     ]
 
-pub too_long : (entries : List HeaderEntry) (ws : List (List ℕ)) → all_short entries ≡ true → 4 < length ws → (query : Bool) (key : Key) (k : ℕ)
+pub too_long : (entries : List HeaderEntry) (ws : List (List ℕ)) → all_short entries ≡ true → 4 < length ws → (query : Bool) (key : HeaderMeaning) (k : ℕ)
     → IsFound entries ws query key k → ⊥
 too_long entries ws t l query key k f =
     let a = fits_length f.entry.nodes ws k (listed_fits f.entry.nodes ws k f.spelled) in
@@ -265,7 +265,7 @@ entry_fits e = list_all spelling_fits (spellings e.nodes)
 abbrev pub all_fit : List HeaderEntry → Bool
 all_fit entries = list_all entry_fits entries
 
-pub found_fits : (entries : List HeaderEntry) (ws : List (List ℕ)) → all_fit entries ≡ true → (query : Bool) (key : Key) (k : ℕ)
+pub found_fits : (entries : List HeaderEntry) (ws : List (List ℕ)) → all_fit entries ≡ true → (query : Bool) (key : HeaderMeaning) (k : ℕ)
     → IsFound entries ws query key k
     → list_all node_fits ws ≡ true
 found_fits entries ws t query key k f =

@@ -10,8 +10,8 @@ use Rattle.sw_lex.specs.declared.command.Setting.TheVariants as settings
 use Rattle.sw_lex.specs.declared.command.StatusSetting.TheVariants as status
 use Rattle.sw_lex.specs.declared.command.Time.{Time}
 use Rattle.sw_lex.specs.declared.command.Time.TheVariants as times
-use Rattle.sw_lex.specs.declared.table.Whole.{Whole}
-use Rattle.sw_lex.specs.declared.table.Whole.TheVariants as whole_ones
+use Rattle.sw_lex.specs.declared.table.Numeric.{Numeric}
+use Rattle.sw_lex.specs.declared.table.Numeric.TheVariants as whole_ones
 use Rattle.sw_lex.specs.declared.table.Family.{Family}
 use Rattle.sw_lex.specs.declared.table.Family.TheVariants as families
 
@@ -21,7 +21,7 @@ layer_numbered families.Arm number = layers.Arm (arm_numbered number)
 layer_numbered families.Trigger number = layers.Trigger
 
 -- the command with this number
-abbrev pub of_whole : Whole → ℕ → ℕ → Command
+abbrev pub of_whole : Numeric → ℕ → ℕ → Command
 of_whole whole_ones.EventEnable number n = commands.SetStatus (status.EventEnable n)
 of_whole whole_ones.ServiceEnable number n = commands.SetStatus (status.ServiceEnable n)
 of_whole (whole_ones.Count family) number n = commands.Set (settings.Count (layer_numbered family number) n)
@@ -33,7 +33,7 @@ of_whole whole_ones.Points number n = commands.Set (settings.Points n)
 of_whole (whole_ones.Slot query) number n = commands.SlotQuery query n
 
 -- the least number that a command takes
-abbrev pub least : Whole → ℕ
+abbrev pub least : Numeric → ℕ
 least whole_ones.EventEnable = 0
 least whole_ones.ServiceEnable = 0
 least (whole_ones.Count family) = 1
@@ -45,7 +45,7 @@ least whole_ones.Points = 1
 least (whole_ones.Slot query) = 1
 
 -- the greatest
-abbrev pub greatest : Whole → ℕ
+abbrev pub greatest : Numeric → ℕ
 greatest whole_ones.EventEnable = 255
 greatest whole_ones.ServiceEnable = 255
 greatest (whole_ones.Count families.Arm) = most_arm_count

@@ -1,7 +1,7 @@
 -- Which command a header is: its spellings, all of them.
 use Rattle.std.specs.Prelude.{◌≡◌, ◌≤◌, ℕ, zero, suc, ◌+◌, Bool, List, [], ◌∷◌, ◌++◌, map, ◌⊎◌}
 use Rattle.sw_base.specs.Limits.{most_arm_layers}
-use Rattle.sw_lex.specs.declared.table.Key.{Key}
+use Rattle.sw_lex.specs.declared.table.HeaderMeaning.{HeaderMeaning}
 use Rattle.sw_lex.specs.Words.{short_of, long_of}
 use Rattle.sw_lex.specs.Table.{Node, must, may, numbered, HeaderEntry}
 
@@ -48,7 +48,7 @@ spellings (numbered w ∷ ns) =
     after_either w (spellings ns) ++ (after_numbers w most_arm_layers (spellings ns) ++ spellings ns)
 
 -- the words, in capitals, are a header of the table
-pub record IsFound (entries : List HeaderEntry) (words : List (List ℕ)) (query : Bool) (key : Key)
+pub record IsFound (entries : List HeaderEntry) (words : List (List ℕ)) (query : Bool) (key : HeaderMeaning)
     (number : ℕ) : Type 0 where
   pub entry : HeaderEntry
   pub listed : IsIn entry entries

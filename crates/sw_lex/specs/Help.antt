@@ -2,7 +2,7 @@
 -- SYSTem:HELP:HEADers?).
 use Rattle.std.specs.Prelude.{ℕ, Bool, false, ◌==◌, ◌||◌, List, [], ◌∷◌, ◌++◌, codes, if◌then◌else◌}
 use Rattle.std.specs.List.{join_with_byte}
-use Rattle.sw_lex.specs.declared.table.Key.{Key}
+use Rattle.sw_lex.specs.declared.table.HeaderMeaning.{HeaderMeaning}
 use Rattle.sw_lex.specs.Apart.{same_word}
 use Rattle.sw_lex.specs.Block.{block_of}
 use Rattle.sw_lex.specs.Table.{table, is_query}
@@ -13,7 +13,7 @@ unasked [] = []
 unasked (b ∷ text) = if b == 63 then [] else b ∷ unasked text
 
 -- whether one of the rows is this header
-abbrev pub is_among : List ℕ → List (List ℕ × Key) → Bool
+abbrev pub is_among : List ℕ → List (List ℕ × HeaderMeaning) → Bool
 is_among header [] = false
 is_among header (row ∷ rows) = same_word header row.0 || is_among header rows
 
@@ -32,7 +32,7 @@ help_line header =
     else if is_among (header ++ 63 ∷ []) table then from_root header ∷ []
     else (from_root header ++ codes "/nquery/") ∷ []
 
-abbrev pub help_lines : List (List ℕ × Key) → List (List ℕ)
+abbrev pub help_lines : List (List ℕ × HeaderMeaning) → List (List ℕ)
 help_lines [] = []
 help_lines (row ∷ rows) = help_line row.0 ++ help_lines rows
 

@@ -13,8 +13,8 @@ use Rattle.sw_lex.specs.declared.command.Command.TheVariants as commands
 use Rattle.sw_lex.specs.declared.command.MacroCommand.TheVariants as macros
 use Rattle.sw_lex.specs.declared.command.PlainQuery.TheVariants as queries
 use Rattle.sw_lex.specs.declared.command.Setting.TheVariants as settings
-use Rattle.sw_lex.specs.declared.table.Key.{Key}
-use Rattle.sw_lex.specs.declared.table.Key.TheVariants as keys
+use Rattle.sw_lex.specs.declared.table.HeaderMeaning.{HeaderMeaning}
+use Rattle.sw_lex.specs.declared.table.HeaderMeaning.TheVariants as keys
 use Rattle.sw_lex.specs.declared.table.Switch.{Switch}
 use Rattle.sw_lex.specs.declared.path.Path.{Path}
 use Rattle.sw_lex.specs.Unit.{Heading, common, path, Datum, number, character, string, block, expression, UnitSeen}
@@ -170,7 +170,7 @@ OfCheck (d ∷ ds) r = (read : Result (List ℕ) ScpiError) × WithBlock ReadsBl
 
 -- the command of a header with this number in it and these data, or its first refusal; or lack of memory where a list,
 -- a string or a block is read
-abbrev pub DecodesCommand : Key → ℕ → List Datum → Result Command ScpiError → Type 0
+abbrev pub DecodesCommand : HeaderMeaning → ℕ → List Datum → Result Command ScpiError → Type 0
 DecodesCommand (keys.Plain ask) k ds r = WithNone (commands.Plain ask) ds r
 DecodesCommand (keys.Query ask) k ds r = WithNone (commands.Query ask) ds r
 DecodesCommand (keys.LayerQuery ask family) k ds r = WithNone (commands.LayerQuery ask (layer_numbered family k)) ds r
@@ -185,7 +185,7 @@ DecodesCommand keys.Program k ds r =
     × (r ≡ result_map_both (λ code. commands.Set (settings.Program code)) (λ e. e) read)
 DecodesCommand keys.NoProgram k ds r = WithNone (commands.Set settings.NoProgram) ds r
 DecodesCommand keys.ScanCheck k ds r = OfCheck ds r
-DecodesCommand (keys.Whole ask) k ds r = OfNumber (whole_of ask k) ds r
+DecodesCommand (keys.Numeric ask) k ds r = OfNumber (whole_of ask k) ds r
 DecodesCommand (keys.Time kind family) k ds r = OfNumber (time_of kind (layer_numbered family k)) ds r
 DecodesCommand (keys.Source family) k ds r = OfWord (source_meant (layer_numbered family k)) ds r
 DecodesCommand (keys.Switch ask) k ds r = OfSwitch ask ds r
@@ -205,19 +205,19 @@ abbrev pub without_number : UnitSeen → Nodes → Nodes
 without_number unit below = capitals (map unnumbered (looked_up unit.header below))
 
 abbrev pub IsNone : Nodes → Bool → Type 0
-IsNone words query = (key : Key) (number : ℕ) → IsFound entries words query key number → ⊥
+IsNone words query = (key : HeaderMeaning) (number : ℕ) → IsFound entries words query key number → ⊥
 
 -- the refusal of nodes that are no header of the table
 abbrev pub IsRefusal : Nodes → Bool → ScpiError → Type 0
 IsRefusal nodes query e =
-    ((key : Key) × (number : ℕ) × IsFound entries (capitals (map unnumbered nodes)) query key number
+    ((key : HeaderMeaning) × (number : ℕ) × IsFound entries (capitals (map unnumbered nodes)) query key number
     × (e ≡ HeaderSuffixOutOfRange))
     ⊎ (IsNone (capitals (map unnumbered nodes)) query × (e ≡ UndefinedHeader))
 
 -- the header is one of the table
 pub record IsCommand (unit : UnitSeen) (below : Nodes) (result : Result Command ScpiError)
     (after : Nodes) : Type 0 where
-  pub key : Key
+  pub key : HeaderMeaning
   pub number : ℕ
   pub found : IsFound entries (asked unit below) unit.query key number
   pub decoded : DecodesCommand key number unit.elements result
@@ -235,7 +235,7 @@ pub record IsUnknown (unit : UnitSeen) (below : Nodes) (result : Result Command 
 pub record IsMisnumbered (unit : UnitSeen) (below : Nodes) (result : Result Command ScpiError)
     (after : Nodes) : Type 0 where
   pub nothing : IsNone (asked unit below) unit.query
-  pub key : Key
+  pub key : HeaderMeaning
   pub number : ℕ
   pub found : IsFound entries (without_number unit below) unit.query key number
   pub refused : result ≡ Err HeaderSuffixOutOfRange

@@ -5,12 +5,12 @@ use Rattle.std.specs.List.{list_all}
 use Rattle.std.specs.Char.{to_ascii_uppercase}
 use Rattle.sw_base.specs.Text.{is_word, AllPass}
 use Rattle.sw_base.specs.Limits.{longest_mnemonic, most_arm_layers}
-use Rattle.sw_lex.specs.declared.table.Key.{Key}
-use Rattle.sw_lex.specs.declared.packing.Form.{Form}
+use Rattle.sw_lex.specs.declared.table.HeaderMeaning.{HeaderMeaning}
+use Rattle.sw_lex.specs.declared.packing.Mnemonic.{Mnemonic}
 use Rattle.sw_lex.specs.declared.rows.HeaderNode.{HeaderNode}
 use Rattle.sw_lex.specs.declared.rows.HeaderNode.TheVariants.{Must, May, Numbered}
 use Rattle.sw_lex.specs.declared.rows.Row.{Row}
-use Rattle.sw_lex.specs.declared.rows.Group.{Group}
+use Rattle.sw_lex.specs.declared.rows.Subsystem.{Subsystem}
 use Rattle.sw_lex.specs.Words.{short_of, long_of}
 use Rattle.sw_lex.specs.Rows.{is_query_row, row_nodes, key_of_row}
 
@@ -68,7 +68,7 @@ abbrev pub is_number : ℕ → ℕ → List ℕ → Bool
 is_number most n word = n == packed word && (nat_le (length word) most && list_all is_byte word)
 
 -- the numbers of a mnemonic's two forms are those of its text
-abbrev pub is_packed : ℕ → Form → Bool
+abbrev pub is_packed : ℕ → Mnemonic → Bool
 is_packed most form = is_number most form.short (short_of form.text.now) && is_number most form.long
     (long_of form.text.now)
 
@@ -84,16 +84,16 @@ nodes_packed nodes = list_all node_packed nodes
 abbrev pub rows_packed : List Row → Bool
 rows_packed rows = list_all (λ row. nodes_packed (row_nodes row)) rows
 
-abbrev pub groups_packed : List Group → Bool
+abbrev pub groups_packed : List Subsystem → Bool
 groups_packed groups = list_all (λ group. is_packed longest_mnemonic group.first && rows_packed group.rows.now) groups
 
 -- ---- numbers of words that are spellings of rows: `Found` and `Rows` over numbers
 
-abbrev pub IsFormNumber : Form → ℕ → Type 0
+abbrev pub IsFormNumber : Mnemonic → ℕ → Type 0
 IsFormNumber form n = (n ≡ form.short) ⊎ (n ≡ form.long)
 
 -- the digit of an ARM layer is the last byte
-abbrev pub IsNumberedForm : Form → ℕ → ℕ → Type 0
+abbrev pub IsNumberedForm : Mnemonic → ℕ → ℕ → Type 0
 IsNumberedForm form k n = (1 ≤ k) × (k ≤ most_arm_layers) × (n % 256 ≡ 48 + k) × IsFormNumber form (n / 256)
 
 abbrev pub FitNumbers : List HeaderNode → List ℕ → ℕ → Type 0
@@ -106,13 +106,13 @@ FitNumbers (Numbered form ∷ nodes) [] k = FitNumbers nodes [] k
 FitNumbers (Numbered form ∷ nodes) (n ∷ ns) k = (IsFormNumber form n × FitNumbers nodes ns k)
     ⊎ (((m : ℕ) × FitNumbers nodes ns m × IsNumberedForm form k n) ⊎ FitNumbers nodes (n ∷ ns) k)
 
-abbrev pub RowNumbers : List Row → List ℕ → Bool → Key → ℕ → Type 0
+abbrev pub RowNumbers : List Row → List ℕ → Bool → HeaderMeaning → ℕ → Type 0
 RowNumbers [] ns query key k = ⊥
 RowNumbers (row ∷ rows) ns query key k =
     ((is_query_row row ≡ query) × (key_of_row row ≡ key) × FitNumbers (row_nodes row) ns k) ⊎ RowNumbers rows ns query
     key k
 
-abbrev pub GroupNumbers : List Group → ℕ → List ℕ → Bool → Key → ℕ → Type 0
+abbrev pub GroupNumbers : List Subsystem → ℕ → List ℕ → Bool → HeaderMeaning → ℕ → Type 0
 GroupNumbers [] n ns query key k = ⊥
 GroupNumbers (group ∷ groups) n ns query key k =
     (IsFormNumber group.first n × RowNumbers group.rows.now ns query key k) ⊎ GroupNumbers groups n ns query key k

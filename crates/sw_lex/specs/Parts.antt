@@ -2,7 +2,7 @@
 -- letter behind the star; and commands apart from queries.
 use Rattle.std.specs.Prelude.{◌≡◌, ℕ, Bool, true, false, ◌==◌, ◌&&◌, List, [], ◌∷◌, if◌then◌else◌}
 use Rattle.std.specs.List.{filter, list_any}
-use Rattle.sw_lex.specs.declared.rows.Part.{Part}
+use Rattle.sw_lex.specs.declared.rows.HeadersByLetter.{HeadersByLetter}
 use Rattle.sw_lex.specs.Table.{HeaderEntry, entries}
 use Rattle.sw_lex.specs.Found.{spellings}
 use Rattle.sw_lex.specs.Apart.{same_bool}
@@ -29,7 +29,7 @@ belongs part query e = same_bool query e.query && list_any (λ s. begins_words p
 
 -- These are all entries of the table that begin with this letter: the commands, and the queries. The numbers of their
 -- mnemonics are right.
-abbrev pub IsPart : Bool × ℕ → Part → Type 0
+abbrev pub IsPart : Bool × ℕ → HeadersByLetter → Type 0
 IsPart part p = (entries_of p.commands.now ≡ filter (belongs part false) entries)
     × (entries_of p.queries.now ≡ filter (belongs part true) entries)
     × (groups_packed p.commands.now ≡ true) × (groups_packed p.queries.now ≡ true)

@@ -1,12 +1,12 @@
 -- How the rows of the code are read as entries of the table.
 use Rattle.std.specs.Prelude.{◌≡◌, ℕ, Bool, true, false, not, ◌==◌, ◌&&◌, List, [], ◌∷◌, ◌++◌, map, ◌⊎◌}
 use Rattle.std.specs.Char.{is_ascii_lowercase, to_ascii_uppercase}
-use Rattle.sw_lex.specs.declared.table.Key.{Key}
+use Rattle.sw_lex.specs.declared.table.HeaderMeaning.{HeaderMeaning}
 use Rattle.sw_lex.specs.declared.rows.HeaderNode.{HeaderNode}
 use Rattle.sw_lex.specs.declared.rows.HeaderNode.TheVariants.{Must, May, Numbered}
 use Rattle.sw_lex.specs.declared.rows.Row.{Row}
 use Rattle.sw_lex.specs.declared.rows.Row.TheVariants.{Command, Query}
-use Rattle.sw_lex.specs.declared.rows.Group.{Group}
+use Rattle.sw_lex.specs.declared.rows.Subsystem.{Subsystem}
 use Rattle.sw_lex.specs.Table.{Node, must, may, numbered, HeaderEntry}
 use Rattle.sw_lex.specs.Found.{IsForm, Fits}
 
@@ -36,7 +36,7 @@ row_nodes (Command nodes key) = nodes.now
 row_nodes (Query nodes key) = nodes.now
 
 -- what it asks for
-abbrev pub key_of_row : Row → Key
+abbrev pub key_of_row : Row → HeaderMeaning
 key_of_row (Command nodes key) = key
 key_of_row (Query nodes key) = key
 
@@ -49,19 +49,19 @@ entry_at first row = record {
       key_of_row row;
 }
 
-unfoldable pub entries_of : List Group → List HeaderEntry
+unfoldable pub entries_of : List Subsystem → List HeaderEntry
 entries_of [] = []
 entries_of (group ∷ groups) = map (entry_at group.first.text.now) group.rows.now ++ entries_of groups
 
 -- the words, in capitals, are what one of the rows has below its first node
-abbrev pub MatchesRow : List Row → List (List ℕ) → Bool → Key → ℕ → Type 0
+abbrev pub MatchesRow : List Row → List (List ℕ) → Bool → HeaderMeaning → ℕ → Type 0
 MatchesRow [] ws query key k = ⊥
 MatchesRow (row ∷ rows) ws query key k =
     ((is_query_row row ≡ query) × (key_of_row row ≡ key) × Fits (nodes_at (row_nodes row)) ws k)
     ⊎ MatchesRow rows ws query key k
 
 -- the word and those after it, in capitals, are a header of one of the groups
-abbrev pub Matches : List Group → List ℕ → List (List ℕ) → Bool → Key → ℕ → Type 0
+abbrev pub Matches : List Subsystem → List ℕ → List (List ℕ) → Bool → HeaderMeaning → ℕ → Type 0
 Matches [] w ws query key k = ⊥
 Matches (group ∷ groups) w ws query key k =
     (IsForm group.first.text.now w × MatchesRow group.rows.now ws query key k) ⊎ Matches groups w ws query key k

@@ -12,14 +12,14 @@ use Rattle.sw_lex.specs.declared.command.StatusRead.TheVariants as reads
 use Rattle.sw_lex.specs.declared.command.Channels.TheVariants as lists
 use Rattle.sw_lex.specs.declared.command.Time.TheVariants as times
 use Rattle.sw_lex.specs.declared.command.AllMacros.TheVariants as all_macros
-use Rattle.sw_lex.specs.declared.table.Key.{Key}
-use Rattle.sw_lex.specs.declared.table.Key.TheVariants as keys
-use Rattle.sw_lex.specs.declared.table.Whole.TheVariants as wholes
+use Rattle.sw_lex.specs.declared.table.HeaderMeaning.{HeaderMeaning}
+use Rattle.sw_lex.specs.declared.table.HeaderMeaning.TheVariants as keys
+use Rattle.sw_lex.specs.declared.table.Numeric.TheVariants as wholes
 use Rattle.sw_lex.specs.declared.table.Switch.TheVariants as switches
 use Rattle.sw_lex.specs.declared.table.Family.TheVariants as families
 
 -- each header, and what it asks for
-unfoldable pub table : List (List ℕ × Key)
+unfoldable pub table : List (List ℕ × HeaderMeaning)
 table =
     (codes "*IDN?", keys.Query queries.Identify)
     ∷ (codes "*RST", keys.Plain plain.Reset)
@@ -29,10 +29,10 @@ table =
     ∷ (codes "*TST?", keys.Query queries.SelfTest)
     ∷ (codes "*TRG", keys.Plain plain.Trigger)
     ∷ (codes "*CLS", keys.Plain plain.ClearStatus)
-    ∷ (codes "*ESE", keys.Whole wholes.EventEnable)
+    ∷ (codes "*ESE", keys.Numeric wholes.EventEnable)
     ∷ (codes "*ESE?", keys.Query queries.EventEnable)
     ∷ (codes "*ESR?", keys.ReadOut reads.EventStatus)
-    ∷ (codes "*SRE", keys.Whole wholes.ServiceEnable)
+    ∷ (codes "*SRE", keys.Numeric wholes.ServiceEnable)
     ∷ (codes "*SRE?", keys.Query queries.ServiceEnable)
     ∷ (codes "*STB?", keys.Query queries.StatusByte)
     ∷ (codes "*DMC", keys.DefineMacro)
@@ -43,7 +43,7 @@ table =
     ∷ (codes "*EMC", keys.EnableMacros)
     ∷ (codes "*EMC?", keys.Macros all_macros.EnableQuery)
     ∷ (codes "ABORt", keys.Plain plain.Abort)
-    ∷ (codes "ARM[:LAYer#]:COUNt", keys.Whole (wholes.Count families.Arm))
+    ∷ (codes "ARM[:LAYer#]:COUNt", keys.Numeric (wholes.Count families.Arm))
     ∷ (codes "ARM[:LAYer#]:COUNt?", keys.LayerQuery layer_queries.Count families.Arm)
     ∷ (codes "ARM[:LAYer#]:SOURce", keys.Source families.Arm)
     ∷ (codes "ARM[:LAYer#]:SOURce?", keys.LayerQuery layer_queries.Source families.Arm)
@@ -55,7 +55,7 @@ table =
     ∷ (codes "INITiate[:IMMediate]", keys.Plain plain.Initiate)
     ∷ (codes "INITiate:CONTinuous", keys.Switch switches.Continuous)
     ∷ (codes "INITiate:CONTinuous?", keys.Query queries.InitiateContinuous)
-    ∷ (codes "TRIGger:COUNt", keys.Whole (wholes.Count families.Trigger))
+    ∷ (codes "TRIGger:COUNt", keys.Numeric (wholes.Count families.Trigger))
     ∷ (codes "TRIGger:COUNt?", keys.LayerQuery layer_queries.Count families.Trigger)
     ∷ (codes "TRIGger:SOURce", keys.Source families.Trigger)
     ∷ (codes "TRIGger:SOURce?", keys.LayerQuery layer_queries.Source families.Trigger)
@@ -64,7 +64,7 @@ table =
     ∷ (codes "TRIGger:TIMer", keys.Time times.Timer families.Trigger)
     ∷ (codes "TRIGger:TIMer?", keys.LayerQuery layer_queries.Timer families.Trigger)
     ∷ (codes "TRIGger:SIGNal", keys.Signal families.Trigger)
-    ∷ (codes "TRACe:POINts", keys.Whole wholes.Points)
+    ∷ (codes "TRACe:POINts", keys.Numeric wholes.Points)
     ∷ (codes "TRACe:POINts?", keys.Query queries.Points)
     ∷ (codes "TRACe:POINts:ACTual?", keys.Query queries.ActualPoints)
     ∷ (codes "ROUTe:CLOSe", keys.Channels lists.Close)
@@ -77,7 +77,7 @@ table =
     ∷ (codes "ROUTe:CHANnel:DELay?", keys.Query queries.Settling)
     ∷ (codes "ROUTe:SCAN", keys.Scan)
     ∷ (codes "ROUTe:SCAN?", keys.Query queries.Scan)
-    ∷ (codes "ROUTe:SCAN:METer", keys.Whole wholes.ScanMeter)
+    ∷ (codes "ROUTe:SCAN:METer", keys.Numeric wholes.ScanMeter)
     ∷ (codes "ROUTe:SCAN:METer?", keys.Query queries.ScanMeter)
     ∷ (codes "ROUTe:SCAN:PROGram[:DEFine]", keys.Program)
     ∷ (codes "ROUTe:SCAN:PROGram[:DEFine]?", keys.Query queries.Program)
@@ -86,19 +86,19 @@ table =
     ∷ (codes "ROUTe:SCAN:PROGram:DELete", keys.NoProgram)
     ∷ (codes "STATus:OPERation[:EVENt]?", keys.ReadOut (reads.GroupEvent groups.Operation))
     ∷ (codes "STATus:OPERation:CONDition?", keys.GroupQuery group_queries.Condition groups.Operation)
-    ∷ (codes "STATus:OPERation:ENABle", keys.Whole (wholes.Enable groups.Operation))
+    ∷ (codes "STATus:OPERation:ENABle", keys.Numeric (wholes.Enable groups.Operation))
     ∷ (codes "STATus:OPERation:ENABle?", keys.GroupQuery group_queries.Enable groups.Operation)
-    ∷ (codes "STATus:OPERation:PTRansition", keys.Whole (wholes.PositiveTransition groups.Operation))
+    ∷ (codes "STATus:OPERation:PTRansition", keys.Numeric (wholes.PositiveTransition groups.Operation))
     ∷ (codes "STATus:OPERation:PTRansition?", keys.GroupQuery group_queries.PositiveTransition groups.Operation)
-    ∷ (codes "STATus:OPERation:NTRansition", keys.Whole (wholes.NegativeTransition groups.Operation))
+    ∷ (codes "STATus:OPERation:NTRansition", keys.Numeric (wholes.NegativeTransition groups.Operation))
     ∷ (codes "STATus:OPERation:NTRansition?", keys.GroupQuery group_queries.NegativeTransition groups.Operation)
     ∷ (codes "STATus:QUEStionable[:EVENt]?", keys.ReadOut (reads.GroupEvent groups.Questionable))
     ∷ (codes "STATus:QUEStionable:CONDition?", keys.GroupQuery group_queries.Condition groups.Questionable)
-    ∷ (codes "STATus:QUEStionable:ENABle", keys.Whole (wholes.Enable groups.Questionable))
+    ∷ (codes "STATus:QUEStionable:ENABle", keys.Numeric (wholes.Enable groups.Questionable))
     ∷ (codes "STATus:QUEStionable:ENABle?", keys.GroupQuery group_queries.Enable groups.Questionable)
-    ∷ (codes "STATus:QUEStionable:PTRansition", keys.Whole (wholes.PositiveTransition groups.Questionable))
+    ∷ (codes "STATus:QUEStionable:PTRansition", keys.Numeric (wholes.PositiveTransition groups.Questionable))
     ∷ (codes "STATus:QUEStionable:PTRansition?", keys.GroupQuery group_queries.PositiveTransition groups.Questionable)
-    ∷ (codes "STATus:QUEStionable:NTRansition", keys.Whole (wholes.NegativeTransition groups.Questionable))
+    ∷ (codes "STATus:QUEStionable:NTRansition", keys.Numeric (wholes.NegativeTransition groups.Questionable))
     ∷ (codes "STATus:QUEStionable:NTRansition?", keys.GroupQuery group_queries.NegativeTransition groups.Questionable)
     ∷ (codes "STATus:PRESet", keys.Plain plain.Preset)
     ∷ (codes "SYSTem:ERRor[:NEXT]?", keys.ReadOut reads.NextError)
@@ -106,9 +106,9 @@ table =
     ∷ (codes "SYSTem:ERRor:COUNt?", keys.Query queries.ErrorCount)
     ∷ (codes "SYSTem:HELP:HEADers?", keys.Query queries.Headers)
     ∷ (codes "SYSTem:VERSion?", keys.Query queries.Version)
-    ∷ (codes "SYSTem:CTYPe?", keys.Whole (wholes.Slot slot_queries.Kind))
-    ∷ (codes "SYSTem:CTYPe:GROups?", keys.Whole (wholes.Slot slot_queries.Groups))
-    ∷ (codes "SYSTem:CTYPe:STATe?", keys.Whole (wholes.Slot slot_queries.State))
+    ∷ (codes "SYSTem:CTYPe?", keys.Numeric (wholes.Slot slot_queries.Kind))
+    ∷ (codes "SYSTem:CTYPe:GROups?", keys.Numeric (wholes.Slot slot_queries.Groups))
+    ∷ (codes "SYSTem:CTYPe:STATe?", keys.Numeric (wholes.Slot slot_queries.State))
     ∷ (codes "DIAGnostic:SCAN:BOUNd?", keys.Query queries.Bound)
     ∷ (codes "DIAGnostic:SCAN:CHECk?", keys.ScanCheck)
     ∷ (codes "DIAGnostic:CLOSe:CHECk?", keys.Channels lists.CloseCheck)
@@ -164,9 +164,9 @@ is_query (b ∷ text) = b == 63 || is_query text
 pub record HeaderEntry : Type 0 where
   pub nodes : List Node
   pub query : Bool
-  pub key : Key
+  pub key : HeaderMeaning
 
-abbrev pub header_entry : List ℕ × Key → HeaderEntry
+abbrev pub header_entry : List ℕ × HeaderMeaning → HeaderEntry
 header_entry e = record { nodes = nodes_from (scanned e.0); query = is_query e.0; key = e.1 }
 
 unfoldable pub entries : List HeaderEntry

@@ -21,7 +21,7 @@ use Rattle.sw_lex.specs.declared.command.Command.TheVariants as commands
 use Rattle.sw_lex.specs.declared.command.MacroCommand.TheVariants as macros
 use Rattle.sw_lex.specs.declared.command.Setting.TheVariants as settings
 use Rattle.sw_lex.specs.declared.command.Time.{Time}
-use Rattle.sw_lex.specs.declared.table.Whole.{Whole}
+use Rattle.sw_lex.specs.declared.table.Numeric.{Numeric}
 use Rattle.sw_lex.specs.declared.table.Switch.{Switch}
 use Rattle.sw_lex.specs.declared.table.Switch.TheVariants as switches
 use Rattle.sw_lex.specs.Elements.{IsString, IsBlock}
@@ -60,7 +60,7 @@ abbrev pub natural_in : ℕ → ℕ → ℤ → Result ℕ ScpiError
 natural_in low high z = result_map_both unsigned_abs (λ e. e) (in_range (pos low) (pos high) z)
 
 -- the nearest whole number of what takes no suffix, in the command's range
-abbrev pub whole_of : Whole → ℕ → Written → List ℕ → Result Command ScpiError
+abbrev pub whole_of : Numeric → ℕ → Written → List ℕ → Result Command ScpiError
 whole_of ask number n [] = result_map_both (λ m. of_whole ask number m) (λ e. e)
     (natural_in (least ask) (greatest ask) (rounded n 0))
 whole_of ask number n (b ∷ suffix) = Err SuffixNotAllowed

@@ -4,7 +4,7 @@ ghost use Rattle.std.specs.Prelude.{◌≡◌, ◌≤◌};
 ghost use Rattle.sw_lex.specs.Commands.{layer_numbered, of_whole, least, greatest, least_micros};
 
 use crate::command::{Command, Setting, StatusSetting, Time};
-use crate::table::{Family, Whole};
+use crate::table::{Family, Numeric};
 use sw_base::{ARM_COUNT, ArmLayer, LayerName, POINTS, SLOTS, TRIGGER_COUNT};
 
 /// The layer of a header with this number, 0 where it has none.
@@ -18,49 +18,50 @@ pub fn layer_of(family: Family, number: u8) -> LayerName
 }
 
 /// The command with this number.
-pub fn of_whole(ask: Whole, number: u8, n: u32) -> Command
+pub fn of_whole(ask: Numeric, number: u8, n: u32) -> Command
     requires { n ≤ greatest ask }
     ensures { result ≡ of_whole ask number n }
 {
     match ask {
-        Whole::EventEnable => Command::SetStatus(StatusSetting::EventEnable(n as u8)),
-        Whole::ServiceEnable => Command::SetStatus(StatusSetting::ServiceEnable(n as u8)),
-        Whole::Count(family) => Command::Set(Setting::Count(layer_of(family, number), n)),
-        Whole::ScanMeter => Command::Set(Setting::ScanMeter(n as u8)),
-        Whole::Enable(group) => Command::SetStatus(StatusSetting::Enable(group, n as u16)),
-        Whole::PositiveTransition(group) => {
+        Numeric::EventEnable => Command::SetStatus(StatusSetting::EventEnable(n as u8)),
+        Numeric::ServiceEnable => Command::SetStatus(StatusSetting::ServiceEnable(n as u8)),
+        Numeric::Count(family) => Command::Set(Setting::Count(layer_of(family, number), n)),
+        Numeric::ScanMeter => Command::Set(Setting::ScanMeter(n as u8)),
+        Numeric::Enable(group) => Command::SetStatus(StatusSetting::Enable(group, n as u16)),
+        Numeric::PositiveTransition(group) => {
             Command::SetStatus(StatusSetting::PositiveTransition(group, n as u16))
         }
-        Whole::NegativeTransition(group) => {
+        Numeric::NegativeTransition(group) => {
             Command::SetStatus(StatusSetting::NegativeTransition(group, n as u16))
         }
-        Whole::Points => Command::Set(Setting::Points(n)),
-        Whole::Slot(query) => Command::SlotQuery(query, n as u8),
+        Numeric::Points => Command::Set(Setting::Points(n)),
+        Numeric::Slot(query) => Command::SlotQuery(query, n as u8),
     }
 }
 
 /// The least number that a command takes.
-pub fn least(ask: Whole) -> u32
+pub fn least(ask: Numeric) -> u32
     ensures { result ≡ least ask }
 {
     match ask {
-        Whole::EventEnable | Whole::ServiceEnable => 0,
-        Whole::Count(_) | Whole::ScanMeter | Whole::Points | Whole::Slot(_) => 1,
-        Whole::Enable(_) | Whole::PositiveTransition(_) | Whole::NegativeTransition(_) => 0,
+        Numeric::EventEnable | Numeric::ServiceEnable => 0,
+        Numeric::Count(_) | Numeric::ScanMeter | Numeric::Points | Numeric::Slot(_) => 1,
+        Numeric::Enable(_) | Numeric::PositiveTransition(_) | Numeric::NegativeTransition(_) => 0,
     }
 }
 
 /// The greatest.
-pub fn greatest(ask: Whole) -> u32
+pub fn greatest(ask: Numeric) -> u32
     ensures { result ≡ greatest ask }
 {
     match ask {
-        Whole::EventEnable | Whole::ServiceEnable => 255,
-        Whole::Count(Family::Arm) => ARM_COUNT,
-        Whole::Count(Family::Trigger) => TRIGGER_COUNT,
-        Whole::ScanMeter | Whole::Slot(_) => u32::from(SLOTS),
-        Whole::Enable(_) | Whole::PositiveTransition(_) | Whole::NegativeTransition(_) => 65_535,
-        Whole::Points => POINTS,
+        Numeric::EventEnable | Numeric::ServiceEnable => 255,
+        Numeric::Count(Family::Arm) => ARM_COUNT,
+        Numeric::Count(Family::Trigger) => TRIGGER_COUNT,
+        Numeric::ScanMeter | Numeric::Slot(_) => u32::from(SLOTS),
+        Numeric::Enable(_) | Numeric::PositiveTransition(_) | Numeric::NegativeTransition(_) =>
+            65_535,
+        Numeric::Points => POINTS,
     }
 }
 

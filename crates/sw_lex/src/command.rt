@@ -1,11 +1,7 @@
 //! The commands, by families: the commands of a family are one variant of `Command`.
 
-ghost use Rattle.std.specs.Prelude.{◌≡◌, IfOk};
-
-use std::alloc::{AllocError, Global};
 use std::fmt::Debug;
-use std::marker::Model;
-use sw_base::{Chan, LayerName, Sequence, Source, StatusGroup};
+use sw_base::{Boxed, Chan, LayerName, Sequence, Source, StatusGroup};
 use sw_channel::Position;
 use sw_verify::ScanProgram;
 
@@ -209,42 +205,11 @@ pub enum Setting {
     /// `TRACe:POINts`: how many readings are kept, 1 to 100,000.
     Points(u32),
     /// `ROUTe:SCAN:PROGram[:DEFine]`: what INITiate runs in place of what the other settings say.
-    Program(BoxedProgram),
+    Program(Boxed<ScanProgram>),
     /// `ROUTe:SCAN:PROGram:STATe`: whether INITiate runs the program.
     Programmed(bool),
     /// `ROUTe:SCAN:PROGram:DELete`
     NoProgram,
-}
-
-/// A program in a box, so that no other command is as large. Contracts see its code.
-#[derive(Debug, Drop)]
-pub struct BoxedProgram {
-    kept: Box<ScanProgram>,
-}
-
-impl Model for BoxedProgram {
-    ghost use Rattle.sw_code.specs.Range.{Program};
-
-    ghost Value = { Program };
-
-    ghost view = { λ b. b.kept.value };
-}
-
-impl BoxedProgram {
-    /// Puts a program into a box.
-    pub fn new(alloc: Global, program: ScanProgram) -> Result<BoxedProgram, AllocError>
-        ensures { IfOk result (λ b. b ≡ program) }
-    {
-        let kept = Box::new(alloc, program)?;
-        Ok(BoxedProgram { kept })
-    }
-
-    /// The program, out of its box.
-    pub fn into_inner(self) -> ScanProgram
-        ensures { result ≡ self }
-    {
-        Box::into_inner(self.kept)
-    }
 }
 
 /// The settings of the status, each with its bits.
@@ -277,7 +242,7 @@ pub enum AllMacros {
 #[derive(Debug, Drop)]
 pub enum MacroCommand {
     /// `*DMC`
-    Define(BoxedDefinition),
+    Define(Boxed<Definition>),
     /// `*GMC?`: a label.
     BodyQuery(Sequence<u8>),
     /// `*RMC`: a label.
@@ -292,35 +257,4 @@ pub struct Definition {
     pub label: Sequence<u8>,
     /// The bytes of the block.
     pub body: Sequence<u8>,
-}
-
-/// A definition in a box, so that no other command is as large as its two texts. Contracts see the definition.
-#[derive(Debug, Drop)]
-pub struct BoxedDefinition {
-    kept: Box<Definition>,
-}
-
-impl Model for BoxedDefinition {
-    ghost use Rattle.sw_lex.specs.declared.command.Definition.{Definition};
-
-    ghost Value = { Definition };
-
-    ghost view = { λ b. b.kept.value };
-}
-
-impl BoxedDefinition {
-    /// Puts a definition into a box.
-    pub fn new(alloc: Global, definition: Definition) -> Result<BoxedDefinition, AllocError>
-        ensures { IfOk result (λ b. b ≡ definition) }
-    {
-        let kept = Box::new(alloc, definition)?;
-        Ok(BoxedDefinition { kept })
-    }
-
-    /// The definition.
-    pub fn get(&self) -> &Definition
-        ensures { result.now ≡ self.now }
-    {
-        &self.kept
-    }
 }

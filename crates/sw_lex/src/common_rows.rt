@@ -10,147 +10,147 @@ use crate::mnemonics::{
     STAR_PMC, STAR_RMC, STAR_RST, STAR_SRE, STAR_STB, STAR_TRG, STAR_TST, STAR_WAI,
 };
 use crate::rows::Row::{Command, Query};
-use crate::rows::{Group, NONE, Part};
-use crate::table::{Key, Whole};
+use crate::rows::{HeadersByLetter, NONE, Subsystem};
+use crate::table::{HeaderMeaning, Numeric};
 
-static COMMON_I: Part = Part {
+static COMMON_I: HeadersByLetter = HeadersByLetter {
     commands: &[],
-    queries: &[Group {
+    queries: &[Subsystem {
         first: STAR_IDN,
-        rows: &[Query(&[], Key::Query(PlainQuery::Identify))],
+        rows: &[Query(&[], HeaderMeaning::Query(PlainQuery::Identify))],
     }],
 };
 
-static COMMON_R: Part = Part {
+static COMMON_R: HeadersByLetter = HeadersByLetter {
     commands: &[
-        Group {
+        Subsystem {
             first: STAR_RST,
-            rows: &[Command(&[], Key::Plain(Plain::Reset))],
+            rows: &[Command(&[], HeaderMeaning::Plain(Plain::Reset))],
         },
-        Group {
+        Subsystem {
             first: STAR_RMC,
-            rows: &[Command(&[], Key::RemoveMacro)],
+            rows: &[Command(&[], HeaderMeaning::RemoveMacro)],
         },
     ],
     queries: &[],
 };
 
-static COMMON_O: Part = Part {
-    commands: &[Group {
+static COMMON_O: HeadersByLetter = HeadersByLetter {
+    commands: &[Subsystem {
         first: STAR_OPC,
-        rows: &[Command(&[], Key::Plain(Plain::OperationComplete))],
+        rows: &[Command(&[], HeaderMeaning::Plain(Plain::OperationComplete))],
     }],
-    queries: &[Group {
+    queries: &[Subsystem {
         first: STAR_OPC,
-        rows: &[Query(&[], Key::Plain(Plain::OperationCompleteQuery))],
+        rows: &[Query(&[], HeaderMeaning::Plain(Plain::OperationCompleteQuery))],
     }],
 };
 
-static COMMON_W: Part = Part {
-    commands: &[Group {
+static COMMON_W: HeadersByLetter = HeadersByLetter {
+    commands: &[Subsystem {
         first: STAR_WAI,
-        rows: &[Command(&[], Key::Plain(Plain::Wait))],
+        rows: &[Command(&[], HeaderMeaning::Plain(Plain::Wait))],
     }],
     queries: &[],
 };
 
-static COMMON_T: Part = Part {
-    commands: &[Group {
+static COMMON_T: HeadersByLetter = HeadersByLetter {
+    commands: &[Subsystem {
         first: STAR_TRG,
-        rows: &[Command(&[], Key::Plain(Plain::Trigger))],
+        rows: &[Command(&[], HeaderMeaning::Plain(Plain::Trigger))],
     }],
-    queries: &[Group {
+    queries: &[Subsystem {
         first: STAR_TST,
-        rows: &[Query(&[], Key::Query(PlainQuery::SelfTest))],
+        rows: &[Query(&[], HeaderMeaning::Query(PlainQuery::SelfTest))],
     }],
 };
 
-static COMMON_C: Part = Part {
-    commands: &[Group {
+static COMMON_C: HeadersByLetter = HeadersByLetter {
+    commands: &[Subsystem {
         first: STAR_CLS,
-        rows: &[Command(&[], Key::Plain(Plain::ClearStatus))],
+        rows: &[Command(&[], HeaderMeaning::Plain(Plain::ClearStatus))],
     }],
     queries: &[],
 };
 
-static COMMON_E: Part = Part {
+static COMMON_E: HeadersByLetter = HeadersByLetter {
     commands: &[
-        Group {
+        Subsystem {
             first: STAR_ESE,
-            rows: &[Command(&[], Key::Whole(Whole::EventEnable))],
+            rows: &[Command(&[], HeaderMeaning::Numeric(Numeric::EventEnable))],
         },
-        Group {
+        Subsystem {
             first: STAR_EMC,
-            rows: &[Command(&[], Key::EnableMacros)],
+            rows: &[Command(&[], HeaderMeaning::EnableMacros)],
         },
     ],
     queries: &[
-        Group {
+        Subsystem {
             first: STAR_ESE,
-            rows: &[Query(&[], Key::Query(PlainQuery::EventEnable))],
+            rows: &[Query(&[], HeaderMeaning::Query(PlainQuery::EventEnable))],
         },
-        Group {
+        Subsystem {
             first: STAR_ESR,
-            rows: &[Query(&[], Key::ReadOut(StatusRead::EventStatus))],
+            rows: &[Query(&[], HeaderMeaning::ReadOut(StatusRead::EventStatus))],
         },
-        Group {
+        Subsystem {
             first: STAR_EMC,
-            rows: &[Query(&[], Key::Macros(AllMacros::EnableQuery))],
+            rows: &[Query(&[], HeaderMeaning::Macros(AllMacros::EnableQuery))],
         },
     ],
 };
 
-static COMMON_S: Part = Part {
-    commands: &[Group {
+static COMMON_S: HeadersByLetter = HeadersByLetter {
+    commands: &[Subsystem {
         first: STAR_SRE,
-        rows: &[Command(&[], Key::Whole(Whole::ServiceEnable))],
+        rows: &[Command(&[], HeaderMeaning::Numeric(Numeric::ServiceEnable))],
     }],
     queries: &[
-        Group {
+        Subsystem {
             first: STAR_SRE,
-            rows: &[Query(&[], Key::Query(PlainQuery::ServiceEnable))],
+            rows: &[Query(&[], HeaderMeaning::Query(PlainQuery::ServiceEnable))],
         },
-        Group {
+        Subsystem {
             first: STAR_STB,
-            rows: &[Query(&[], Key::Query(PlainQuery::StatusByte))],
+            rows: &[Query(&[], HeaderMeaning::Query(PlainQuery::StatusByte))],
         },
     ],
 };
 
-static COMMON_D: Part = Part {
-    commands: &[Group {
+static COMMON_D: HeadersByLetter = HeadersByLetter {
+    commands: &[Subsystem {
         first: STAR_DMC,
-        rows: &[Command(&[], Key::DefineMacro)],
+        rows: &[Command(&[], HeaderMeaning::DefineMacro)],
     }],
     queries: &[],
 };
 
-static COMMON_G: Part = Part {
+static COMMON_G: HeadersByLetter = HeadersByLetter {
     commands: &[],
-    queries: &[Group {
+    queries: &[Subsystem {
         first: STAR_GMC,
-        rows: &[Query(&[], Key::MacroQuery)],
+        rows: &[Query(&[], HeaderMeaning::MacroQuery)],
     }],
 };
 
-static COMMON_L: Part = Part {
+static COMMON_L: HeadersByLetter = HeadersByLetter {
     commands: &[],
-    queries: &[Group {
+    queries: &[Subsystem {
         first: STAR_LMC,
-        rows: &[Query(&[], Key::Macros(AllMacros::LabelsQuery))],
+        rows: &[Query(&[], HeaderMeaning::Macros(AllMacros::LabelsQuery))],
     }],
 };
 
-static COMMON_P: Part = Part {
-    commands: &[Group {
+static COMMON_P: HeadersByLetter = HeadersByLetter {
+    commands: &[Subsystem {
         first: STAR_PMC,
-        rows: &[Command(&[], Key::Macros(AllMacros::Purge))],
+        rows: &[Command(&[], HeaderMeaning::Macros(AllMacros::Purge))],
     }],
     queries: &[],
 };
 
 /// The common commands with this letter behind the star.
-pub fn common_at(letter: u8) -> &'static Part
+pub fn common_at(letter: u8) -> &'static HeadersByLetter
     ensures { IsPart (true, to_ascii_uppercase letter) result.now }
 {
     match letter.to_ascii_uppercase() {

@@ -12,12 +12,12 @@ ghost use Rattle.sw_lex.specs.Headed.{most_words, first_word};
 ghost use Rattle.sw_lex.specs.Packed.{AreNumbersOf, IsFormNumber, IsNumberedForm, FitNumbers, RowNumbers, GroupNumbers};
 ghost use Rattle.sw_lex.specs.Packed.{groups_packed};
 ghost use Rattle.sw_lex.specs.Parts.{IsPart, belongs, part_of};
-ghost use Rattle.sw_lex.specs.declared.table.Key.{Key};
+ghost use Rattle.sw_lex.specs.declared.table.HeaderMeaning.{HeaderMeaning};
 
 use crate::common_rows::common_at;
-use crate::packing::{Form, Word, numbers_of};
-use crate::rows::{Group, HeaderNode, NONE, Part, Row, path_at};
-use crate::table::Key;
+use crate::packing::{Mnemonic, Word, numbers_of};
+use crate::rows::{HeaderNode, HeadersByLetter, NONE, Row, Subsystem, path_at};
+use crate::table::HeaderMeaning;
 use sw_base::ARM_LAYERS;
 
 /// Whether two bytes are one but for the case of a letter.
@@ -61,14 +61,14 @@ pub fn is_form(word: &[u8], form: &[u8]) -> bool
 
 /// Whether a word is one of the two forms.
 #[inline(always)]
-fn is_spelling(word: Word, form: &Form) -> bool
+fn is_spelling(word: Word, form: &Mnemonic) -> bool
     ensures { IsTrue result ↔ IsFormNumber form.now word }
 {
     word == form.short || word == form.long
 }
 
 /// The number of an ARM layer that a word has behind one of the two forms.
-fn number_behind(word: Word, form: &Form) -> Option<u8>
+fn number_behind(word: Word, form: &Mnemonic) -> Option<u8>
     ensures some { IfSome result (λ k. IsNumberedForm form.now k word) }
     ensures none { IfNone result ((k : ℕ) → IsNumberedForm form.now k word → ⊥) }
 {
@@ -156,9 +156,10 @@ fn behind_musts<'s, 'w>(
 
 /// What the first row asks for that these words spell below its first node, and the number in them.
 #[inline(always)]
-fn below(rows: &[Row], words: &[Word]) -> Option<(Key, u8)>
+fn below(rows: &[Row], words: &[Word]) -> Option<(HeaderMeaning, u8)>
     ensures some { IfSome result (λ x. (query : Bool) × RowNumbers rows.now words.now query x.0 x.1) }
-    ensures none { IfNone result ((query : Bool) (key : Key) (k : ℕ) → RowNumbers rows.now words.now query key k → ⊥) }
+    ensures none { IfNone result ((query : Bool) (key : HeaderMeaning) (k : ℕ)
+        → RowNumbers rows.now words.now query key k → ⊥) }
 {
     for row in rows {
         if let Some((nodes, rest)) = behind_musts(row.nodes(), words) {
@@ -172,9 +173,9 @@ fn below(rows: &[Row], words: &[Word]) -> Option<(Key, u8)>
 
 /// What a header asks for that is this word and then these, and the number in it.
 #[inline(always)]
-fn matching(groups: &[Group], word: Word, words: &[Word]) -> Option<(Key, u8)>
+fn matching(groups: &[Subsystem], word: Word, words: &[Word]) -> Option<(HeaderMeaning, u8)>
     ensures some { IfSome result (λ x. (query : Bool) × GroupNumbers groups.now word words.now query x.0 x.1) }
-    ensures none { IfNone result ((query : Bool) (key : Key) (k : ℕ)
+    ensures none { IfNone result ((query : Bool) (key : HeaderMeaning) (k : ℕ)
         → GroupNumbers groups.now word words.now query key k → ⊥) }
 {
     for group in groups {
@@ -188,7 +189,7 @@ fn matching(groups: &[Group], word: Word, words: &[Word]) -> Option<(Key, u8)>
 }
 
 /// The headers that begin as this word does.
-fn part_at(word: &[u8]) -> &'static Part
+fn part_at(word: &[u8]) -> &'static HeadersByLetter
     ensures { IsPart (part_of (map to_ascii_uppercase word.now)) result.now }
 {
     match word {
@@ -205,7 +206,7 @@ fn part_at(word: &[u8]) -> &'static Part
 }
 
 /// The headers that begin as this word does, and are commands, or queries.
-pub fn groups_at(word: &[u8], query: bool) -> &'static [Group]
+pub fn groups_at(word: &[u8], query: bool) -> &'static [Subsystem]
     ensures whole { entries_of result.now ≡ filter (belongs (part_of (map to_ascii_uppercase word.now)) query) entries }
     ensures numbers { groups_packed result.now ≡ true }
 {
@@ -215,7 +216,7 @@ pub fn groups_at(word: &[u8], query: bool) -> &'static [Group]
 
 /// The other headers that begin with this letter, and are commands, or queries.
 #[inline(always)]
-pub fn path_groups(letter: u8, query: bool) -> &'static [Group]
+pub fn path_groups(letter: u8, query: bool) -> &'static [Subsystem]
     ensures whole { entries_of result.now ≡ filter (belongs (false, to_ascii_uppercase letter) query) entries }
     ensures numbers { groups_packed result.now ≡ true }
 {
@@ -225,13 +226,13 @@ pub fn path_groups(letter: u8, query: bool) -> &'static [Group]
 
 /// The command of the header with words of these numbers, by the rows that it looks among, and the number in it.
 #[inline(always)]
-pub fn find(groups: &[Group], numbers: &[Word]) -> Option<(Key, u8)>
+pub fn find(groups: &[Subsystem], numbers: &[Word]) -> Option<(HeaderMeaning, u8)>
     ensures some { IfSome result (λ x. (query : Bool) (ws : List (List ℕ)) → AreNumbersOf ws numbers.now
         → entries_of groups.now ≡ filter (belongs (part_of (first_word ws)) query) entries
         → groups_packed groups.now ≡ true → IsFound entries ws query x.0 x.1) }
     ensures none { IfNone result ((query : Bool) (ws : List (List ℕ)) → AreNumbersOf ws numbers.now
         → entries_of groups.now ≡ filter (belongs (part_of (first_word ws)) query) entries
-        → groups_packed groups.now ≡ true → (key : Key) (k : ℕ) → IsFound entries ws query key k → ⊥) }
+        → groups_packed groups.now ≡ true → (key : HeaderMeaning) (k : ℕ) → IsFound entries ws query key k → ⊥) }
 {
     match numbers {
         [] => None,
@@ -241,14 +242,14 @@ pub fn find(groups: &[Group], numbers: &[Word]) -> Option<(Key, u8)>
 
 /// The same by the numbers of a header's first words. None with more than four of them is in the table.
 #[inline(always)]
-pub fn find_kept(groups: &[Group], numbers: &[Word]) -> Option<(Key, u8)>
+pub fn find_kept(groups: &[Subsystem], numbers: &[Word]) -> Option<(HeaderMeaning, u8)>
     ensures some { IfSome result (λ x. (query : Bool) (ws : List (List ℕ))
         → AreNumbersOf (take most_words ws) numbers.now
         → entries_of groups.now ≡ filter (belongs (part_of (first_word ws)) query) entries
         → groups_packed groups.now ≡ true → IsFound entries ws query x.0 x.1) }
     ensures none { IfNone result ((query : Bool) (ws : List (List ℕ)) → AreNumbersOf (take most_words ws) numbers.now
         → entries_of groups.now ≡ filter (belongs (part_of (first_word ws)) query) entries
-        → groups_packed groups.now ≡ true → (key : Key) (k : ℕ) → IsFound entries ws query key k → ⊥) }
+        → groups_packed groups.now ≡ true → (key : HeaderMeaning) (k : ℕ) → IsFound entries ws query key k → ⊥) }
 {
     if numbers.len() > 4 {
         return None;
@@ -257,11 +258,11 @@ pub fn find_kept(groups: &[Group], numbers: &[Word]) -> Option<(Key, u8)>
 }
 
 /// The command that a header of these words is, and the number in it.
-pub fn find_words(words: &[&[u8]], query: bool) -> Option<(Key, u8)>
+pub fn find_words(words: &[&[u8]], query: bool) -> Option<(HeaderMeaning, u8)>
     requires { length words.now ≤ 4 }
     ensures some { IfSome result (λ x. IsFound entries
         (map (λ w. map to_ascii_uppercase w.now) words.now) query x.0 x.1) }
-    ensures none { IfNone result ((key : Key) (k : ℕ)
+    ensures none { IfNone result ((key : HeaderMeaning) (k : ℕ)
         → IsFound entries (map (λ w. map to_ascii_uppercase w.now) words.now) query key k → ⊥) }
 {
     match words {
@@ -272,6 +273,6 @@ pub fn find_words(words: &[&[u8]], query: bool) -> Option<(Key, u8)>
 
 /// No header is two commands.
 pub fn one_command()
-    ensures { (ws : List (List ℕ)) (query : Bool) (key other : Key) (k m : ℕ) → IsFound entries ws query key k
+    ensures { (ws : List (List ℕ)) (query : Bool) (key other : HeaderMeaning) (k m : ℕ) → IsFound entries ws query key k
         → IsFound entries ws query other m → (key ≡ other) × (k ≡ m) }
 {}

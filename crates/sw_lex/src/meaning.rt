@@ -21,25 +21,23 @@ ghost use Rattle.sw_lex.specs.Values.{on_ok, ReadsQuantity, ReadsString, whole_o
 ghost use Rattle.sw_lex.specs.Values.{source_meant};
 
 use crate::choice::layer_of;
-use crate::command::{
-    BoxedDefinition, BoxedProgram, Channels, Command, Definition, MacroCommand, PlainQuery,
-    Setting, Time,
-};
+use crate::command::{Channels, Command, Definition, MacroCommand, PlainQuery, Setting, Time};
 use crate::headers::find_words;
 use crate::owned::{body, content};
 use crate::path::Path;
 use crate::paths::{find_unit, texts, texts_of, unnumbered_all};
 use crate::programs::program;
 use crate::raw_unit::RawUnit;
-use crate::table::{Key, Switch, Whole};
+use crate::table::{HeaderMeaning, Numeric, Switch};
 use crate::unit::{Element, Header};
 use crate::values::{
     is_plain, macros_of, plain_of, quantity, source_meant, switch_meant, switched_by, time_of,
     whole_of,
 };
 use std::alloc::Global;
-use sw_base::{Chan, LayerName, Nrf, ScpiError, Sequence};
+use sw_base::{Boxed, Chan, LayerName, Nrf, ScpiError, Sequence};
 use sw_channel::{Position, read_list, read_positions};
+use sw_verify::ScanProgram;
 
 /// This command, which takes no data.
 #[inline(always)]
@@ -114,7 +112,7 @@ fn plain_digits<'a>(elements: &[Element<'a>]) -> Option<&'a [u8]>
 
 /// The command of one whole number.
 #[inline(never)]
-fn of_whole(ask: Whole, number: u8, elements: &[Element<'_>]) -> Result<Command, ScpiError>
+fn of_whole(ask: Numeric, number: u8, elements: &[Element<'_>]) -> Result<Command, ScpiError>
     ensures { OfNumber (whole_of ask number) (data_of elements.now) result }
 {
     if let Some(digits) = plain_digits(elements) {
@@ -214,7 +212,7 @@ fn define(alloc: Global, label: &[u8], text: &[u8]) -> Result<Command, ScpiError
         Ok(label) => match body(alloc, text) {
             Err(e) => Err(e),
             Ok(body) => {
-                let definition = BoxedDefinition::new(alloc, Definition { label, body })?;
+                let definition = Boxed::new(alloc, Definition { label, body })?;
                 Ok(Command::Macro(MacroCommand::Define(definition)))
             }
         },
@@ -243,7 +241,7 @@ fn of_macro(alloc: Global, elements: &[Element<'_>]) -> Result<Command, ScpiErro
 /// A command with a channel list.
 #[inline(never)]
 fn of_channels(alloc: Global, ask: Channels, elements: &[Element<'_>]) -> Result<Command, ScpiError>
-    ensures { (k : ℕ) → DecodesCommand (Key.Channels ask) k (data_of elements.now) result }
+    ensures { (k : ℕ) → DecodesCommand (HeaderMeaning.Channels ask) k (data_of elements.now) result }
 {
     Ok(Command::Channels(ask, one_list(alloc, elements)?))
 }
@@ -251,13 +249,13 @@ fn of_channels(alloc: Global, ask: Channels, elements: &[Element<'_>]) -> Result
 /// `ROUTe:SCAN`
 #[inline(never)]
 fn of_scan(alloc: Global, elements: &[Element<'_>]) -> Result<Command, ScpiError>
-    ensures { (k : ℕ) → DecodesCommand Key.Scan k (data_of elements.now) result }
+    ensures { (k : ℕ) → DecodesCommand HeaderMeaning.Scan k (data_of elements.now) result }
 {
     Ok(Command::Set(Setting::Scan(one_position_list(alloc, elements)?)))
 }
 
 /// The program of the one element, which is a block.
-fn one_program(alloc: Global, elements: &[Element<'_>]) -> Result<BoxedProgram, ScpiError>
+fn one_program(alloc: Global, elements: &[Element<'_>]) -> Result<Boxed<ScanProgram>, ScpiError>
     ensures { WithBlock ReadsProgram (data_of elements.now) result }
 {
     match elements {
@@ -273,7 +271,7 @@ fn one_program(alloc: Global, elements: &[Element<'_>]) -> Result<BoxedProgram, 
 /// `ROUTe:SCAN:PROGram[:DEFine]`
 #[inline(never)]
 fn of_program(alloc: Global, elements: &[Element<'_>]) -> Result<Command, ScpiError>
-    ensures { (k : ℕ) → DecodesCommand Key.Program k (data_of elements.now) result }
+    ensures { (k : ℕ) → DecodesCommand HeaderMeaning.Program k (data_of elements.now) result }
 {
     Ok(Command::Set(Setting::Program(one_program(alloc, elements)?)))
 }
@@ -309,7 +307,7 @@ fn of_check(alloc: Global, elements: &[Element<'_>]) -> Result<Command, ScpiErro
 /// `*GMC?`
 #[inline(never)]
 fn of_body_query(alloc: Global, elements: &[Element<'_>]) -> Result<Command, ScpiError>
-    ensures { (k : ℕ) → DecodesCommand Key.MacroQuery k (data_of elements.now) result }
+    ensures { (k : ℕ) → DecodesCommand HeaderMeaning.MacroQuery k (data_of elements.now) result }
 {
     Ok(Command::Macro(MacroCommand::BodyQuery(one_string(alloc, elements)?)))
 }
@@ -317,7 +315,7 @@ fn of_body_query(alloc: Global, elements: &[Element<'_>]) -> Result<Command, Scp
 /// `*RMC`
 #[inline(never)]
 fn of_removal(alloc: Global, elements: &[Element<'_>]) -> Result<Command, ScpiError>
-    ensures { (k : ℕ) → DecodesCommand Key.RemoveMacro k (data_of elements.now) result }
+    ensures { (k : ℕ) → DecodesCommand HeaderMeaning.RemoveMacro k (data_of elements.now) result }
 {
     Ok(Command::Macro(MacroCommand::Remove(one_string(alloc, elements)?)))
 }
@@ -326,35 +324,35 @@ fn of_removal(alloc: Global, elements: &[Element<'_>]) -> Result<Command, ScpiEr
 #[inline(always)]
 fn decode(
     alloc: Global,
-    key: Key,
+    key: HeaderMeaning,
     number: u8,
     elements: &[Element<'_>],
 ) -> Result<Command, ScpiError>
     ensures { DecodesCommand key number (data_of elements.now) result }
 {
     match key {
-        Key::Plain(ask) => plain(Command::Plain(ask), elements),
-        Key::Query(ask) => plain(Command::Query(ask), elements),
-        Key::LayerQuery(ask, family) => {
+        HeaderMeaning::Plain(ask) => plain(Command::Plain(ask), elements),
+        HeaderMeaning::Query(ask) => plain(Command::Query(ask), elements),
+        HeaderMeaning::LayerQuery(ask, family) => {
             plain(Command::LayerQuery(ask, layer_of(family, number)), elements)
         }
-        Key::GroupQuery(ask, group) => plain(Command::GroupQuery(ask, group), elements),
-        Key::ReadOut(ask) => plain(Command::ReadOut(ask), elements),
-        Key::Signal(family) => plain(Command::Signal(layer_of(family, number)), elements),
-        Key::Macros(ask) => plain(Command::Macros(ask), elements),
-        Key::Channels(ask) => of_channels(alloc, ask, elements),
-        Key::Scan => of_scan(alloc, elements),
-        Key::Program => of_program(alloc, elements),
-        Key::NoProgram => plain(Command::Set(Setting::NoProgram), elements),
-        Key::ScanCheck => of_check(alloc, elements),
-        Key::Whole(ask) => of_whole(ask, number, elements),
-        Key::Time(time, family) => of_time(time, layer_of(family, number), elements),
-        Key::Source(family) => of_source(layer_of(family, number), elements),
-        Key::Switch(ask) => of_switch(ask, elements),
-        Key::EnableMacros => of_macros(elements),
-        Key::DefineMacro => of_macro(alloc, elements),
-        Key::MacroQuery => of_body_query(alloc, elements),
-        Key::RemoveMacro => of_removal(alloc, elements),
+        HeaderMeaning::GroupQuery(ask, group) => plain(Command::GroupQuery(ask, group), elements),
+        HeaderMeaning::ReadOut(ask) => plain(Command::ReadOut(ask), elements),
+        HeaderMeaning::Signal(family) => plain(Command::Signal(layer_of(family, number)), elements),
+        HeaderMeaning::Macros(ask) => plain(Command::Macros(ask), elements),
+        HeaderMeaning::Channels(ask) => of_channels(alloc, ask, elements),
+        HeaderMeaning::Scan => of_scan(alloc, elements),
+        HeaderMeaning::Program => of_program(alloc, elements),
+        HeaderMeaning::NoProgram => plain(Command::Set(Setting::NoProgram), elements),
+        HeaderMeaning::ScanCheck => of_check(alloc, elements),
+        HeaderMeaning::Numeric(ask) => of_whole(ask, number, elements),
+        HeaderMeaning::Time(time, family) => of_time(time, layer_of(family, number), elements),
+        HeaderMeaning::Source(family) => of_source(layer_of(family, number), elements),
+        HeaderMeaning::Switch(ask) => of_switch(ask, elements),
+        HeaderMeaning::EnableMacros => of_macros(elements),
+        HeaderMeaning::DefineMacro => of_macro(alloc, elements),
+        HeaderMeaning::MacroQuery => of_body_query(alloc, elements),
+        HeaderMeaning::RemoveMacro => of_removal(alloc, elements),
     }
 }
 

@@ -16,7 +16,7 @@ pub type Word = u128;
 /// A mnemonic as the standard writes it, its short form in capitals, and what the long form adds in small letters; and
 /// the numbers of the two forms, which `specs/Packed.antt` compares with the text.
 #[derive(Clone, Copy)]
-pub struct Form {
+pub struct Mnemonic {
     pub text: &'static [u8],
     pub short: Word,
     pub long: Word,

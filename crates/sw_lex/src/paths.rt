@@ -16,7 +16,7 @@ use crate::headers::{find_kept, groups_at, path_groups};
 use crate::packing::Word;
 use crate::path::Path;
 use crate::raw_unit::RawUnit;
-use crate::table::Key;
+use crate::table::HeaderMeaning;
 use crate::unit::Header;
 use crate::values::unnumbered;
 use arrayvec::ArrayVec;
@@ -34,7 +34,7 @@ fn letter_of(nodes: &[u8]) -> u8
 
 /// The command that a unit's header is from the root. Where it is one, the path is then that of the next unit.
 #[inline(always)]
-fn find_from_root(unit: &RawUnit<'_>, letter: u8, path: &mut Path) -> Option<(Key, u8)>
+fn find_from_root(unit: &RawUnit<'_>, letter: u8, path: &mut Path) -> Option<(HeaderMeaning, u8)>
     requires root { looked_up (heading_of unit.now.header) (path_of path.old) ≡ header_nodes unit.now.header }
     requires begins { header_part unit.now.header ≡ (false, to_ascii_uppercase letter) }
     ensures some { IfSome result (λ x. IsFound entries (asked (unit_of unit.now) (path_of path.old)) unit.now.query
@@ -58,7 +58,7 @@ fn find_from_root(unit: &RawUnit<'_>, letter: u8, path: &mut Path) -> Option<(Ke
 
 /// The same below the path, which has a node.
 #[inline(always)]
-fn find_below(unit: &RawUnit<'_>, path: &mut Path) -> Option<(Key, u8)>
+fn find_below(unit: &RawUnit<'_>, path: &mut Path) -> Option<(HeaderMeaning, u8)>
     requires below { looked_up (heading_of unit.now.header) (path_of path.old)
         ≡ path_of path.old ++ header_nodes unit.now.header }
     requires some { path.old.nodes.count ≢ 0 }
@@ -85,7 +85,7 @@ fn find_below(unit: &RawUnit<'_>, path: &mut Path) -> Option<(Key, u8)>
 
 /// The command that a unit's header is below the path. Where it is one, the path is then that of the next unit.
 #[inline(always)]
-pub fn find_unit(unit: &RawUnit<'_>, path: &mut Path) -> Option<(Key, u8)>
+pub fn find_unit(unit: &RawUnit<'_>, path: &mut Path) -> Option<(HeaderMeaning, u8)>
     ensures some { IfSome result (λ x. IsFound entries (asked (unit_of unit.now) (path_of path.old)) unit.now.query
         x.0 x.1) }
     ensures onward { IfSome result (λ _. path_of path.new

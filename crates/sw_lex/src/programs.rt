@@ -5,15 +5,14 @@ ghost use Rattle.sw_base.specs.declared.error.ScpiError.TheVariants.{ProgramSynt
 ghost use Rattle.sw_verify.specs.Runnable.{IsRunnable};
 ghost use Rattle.sw_lex.specs.Programs.{ReadsProgram, ReadsListing, fault_error};
 
-use crate::command::BoxedProgram;
 use crate::elements::block_bytes;
 use std::alloc::Global;
-use sw_base::ScpiError;
+use sw_base::{Boxed, ScpiError};
 use sw_code::{Code, ListFault, read_listing};
 use sw_verify::{ProgramFault, ScanProgram};
 
 /// The program that the block of a text lists.
-pub fn program(alloc: Global, text: &[u8]) -> Result<BoxedProgram, ScpiError>
+pub fn program(alloc: Global, text: &[u8]) -> Result<Boxed<ScanProgram>, ScpiError>
     ensures { ReadsProgram text.now result }
 {
     match block_bytes(text) {
@@ -23,7 +22,7 @@ pub fn program(alloc: Global, text: &[u8]) -> Result<BoxedProgram, ScpiError>
 }
 
 /// The program that the bytes list.
-fn listed(alloc: Global, bytes: &[u8]) -> Result<BoxedProgram, ScpiError>
+fn listed(alloc: Global, bytes: &[u8]) -> Result<Boxed<ScanProgram>, ScpiError>
     ensures { ReadsListing bytes.now result }
 {
     match read_listing(alloc, bytes) {
@@ -33,7 +32,7 @@ fn listed(alloc: Global, bytes: &[u8]) -> Result<BoxedProgram, ScpiError>
 }
 
 /// The program of a code, where it can be run wherever the cards allow it.
-fn judged(alloc: Global, code: Code) -> Result<BoxedProgram, ScpiError>
+fn judged(alloc: Global, code: Code) -> Result<Boxed<ScanProgram>, ScpiError>
     ensures program { IfOk result (λ p. (p ≡ code) × IsRunnable code) }
     ensures refused { IfErr result (λ e.
         (e ≡ OutOfMemory) ⊎ ((e ≡ ProgramSyntaxError) × (IsRunnable code → ⊥))) }
@@ -41,7 +40,7 @@ fn judged(alloc: Global, code: Code) -> Result<BoxedProgram, ScpiError>
     match ScanProgram::judge(alloc, code) {
         Err(ProgramFault::NotRunnable) => Err(ScpiError::ProgramSyntaxError),
         Err(ProgramFault::NoMemory) => Err(ScpiError::OutOfMemory),
-        Ok(program) => Ok(BoxedProgram::new(alloc, program)?),
+        Ok(program) => Ok(Boxed::new(alloc, program)?),
     }
 }
 

@@ -16,29 +16,29 @@ use crate::mnemonics::{
     PTRANSITION, QUESTIONABLE, READ, ROUTE, SCAN, SIGNAL, SOURCE, STATE, STATUS, SYSTEM, TIMER,
     TRACE, TRIGGER, VERSION,
 };
-use crate::packing::Form;
+use crate::packing::Mnemonic;
 use crate::rows::HeaderNode::{May, Must, Numbered};
 use crate::rows::Row::{Command, Query};
 use crate::table::Family::{Arm, Trigger};
-use crate::table::{Key, Switch, Whole};
+use crate::table::{HeaderMeaning, Numeric, Switch};
 use sw_base::StatusGroup::{Operation, Questionable};
 
 /// A node of a header, with its mnemonic.
 #[derive(Clone, Copy)]
 pub enum HeaderNode {
     /// It has to be there.
-    Must(Form),
+    Must(Mnemonic),
     /// It may be left out.
-    May(Form),
+    May(Mnemonic),
     /// It may be left out, and may have the number of an ARM layer.
-    Numbered(Form),
+    Numbered(Mnemonic),
 }
 
 /// A header's nodes below the first, and what it asks for: as a command, or with a question mark.
 #[derive(Clone, Copy)]
 pub enum Row {
-    Command(&'static [HeaderNode], Key),
-    Query(&'static [HeaderNode], Key),
+    Command(&'static [HeaderNode], HeaderMeaning),
+    Query(&'static [HeaderNode], HeaderMeaning),
 }
 
 impl Row {
@@ -52,7 +52,7 @@ impl Row {
     }
 
     /// What it asks for.
-    pub fn key(&self) -> Key
+    pub fn key(&self) -> HeaderMeaning
         ensures { result ≡ key_of_row self.now }
     {
         match *self {
@@ -63,322 +63,364 @@ impl Row {
 
 /// The headers that begin with one mnemonic.
 #[derive(Clone, Copy)]
-pub struct Group {
-    pub first: Form,
+pub struct Subsystem {
+    pub first: Mnemonic,
     pub rows: &'static [Row],
 }
 
 /// The headers whose first words begin with the same letter, by their first mnemonics.
 #[derive(Clone, Copy)]
-pub struct Part {
-    pub commands: &'static [Group],
-    pub queries: &'static [Group],
+pub struct HeadersByLetter {
+    pub commands: &'static [Subsystem],
+    pub queries: &'static [Subsystem],
 }
 
 /// No headers.
-pub static NONE: Part = Part {
+pub static NONE: HeadersByLetter = HeadersByLetter {
     commands: &[],
     queries: &[],
 };
 
 // The other commands, by their first letter.
 
-static PATHS_A: Part = Part {
+static PATHS_A: HeadersByLetter = HeadersByLetter {
     commands: &[
-        Group {
+        Subsystem {
             first: ABORT,
-            rows: &[Command(&[], Key::Plain(Plain::Abort))],
+            rows: &[Command(&[], HeaderMeaning::Plain(Plain::Abort))],
         },
-        Group {
+        Subsystem {
             first: ARM,
             rows: &[
                 Command(
                     &[Numbered(LAYER), Must(COUNT)],
-                    Key::Whole(Whole::Count(Arm)),
+                    HeaderMeaning::Numeric(Numeric::Count(Arm)),
                 ),
-                Command(&[Numbered(LAYER), Must(SOURCE)], Key::Source(Arm)),
-                Command(&[Numbered(LAYER), Must(DELAY)], Key::Time(Time::Delay, Arm)),
-                Command(&[Numbered(LAYER), Must(TIMER)], Key::Time(Time::Timer, Arm)),
-                Command(&[Numbered(LAYER), Must(SIGNAL)], Key::Signal(Arm)),
+                Command(&[Numbered(LAYER), Must(SOURCE)], HeaderMeaning::Source(Arm)),
+                Command(
+                    &[Numbered(LAYER), Must(DELAY)],
+                    HeaderMeaning::Time(Time::Delay, Arm),
+                ),
+                Command(
+                    &[Numbered(LAYER), Must(TIMER)],
+                    HeaderMeaning::Time(Time::Timer, Arm),
+                ),
+                Command(&[Numbered(LAYER), Must(SIGNAL)], HeaderMeaning::Signal(Arm)),
             ],
         },
     ],
-    queries: &[Group {
+    queries: &[Subsystem {
         first: ARM,
         rows: &[
             Query(
                 &[Numbered(LAYER), Must(COUNT)],
-                Key::LayerQuery(LayerQuery::Count, Arm),
+                HeaderMeaning::LayerQuery(LayerQuery::Count, Arm),
             ),
             Query(
                 &[Numbered(LAYER), Must(SOURCE)],
-                Key::LayerQuery(LayerQuery::Source, Arm),
+                HeaderMeaning::LayerQuery(LayerQuery::Source, Arm),
             ),
             Query(
                 &[Numbered(LAYER), Must(DELAY)],
-                Key::LayerQuery(LayerQuery::Delay, Arm),
+                HeaderMeaning::LayerQuery(LayerQuery::Delay, Arm),
             ),
             Query(
                 &[Numbered(LAYER), Must(TIMER)],
-                Key::LayerQuery(LayerQuery::Timer, Arm),
+                HeaderMeaning::LayerQuery(LayerQuery::Timer, Arm),
             ),
         ],
     }],
 };
 
-static PATHS_I: Part = Part {
-    commands: &[Group {
+static PATHS_I: HeadersByLetter = HeadersByLetter {
+    commands: &[Subsystem {
         first: INITIATE,
         rows: &[
-            Command(&[May(IMMEDIATE)], Key::Plain(Plain::Initiate)),
-            Command(&[Must(CONTINUOUS)], Key::Switch(Switch::Continuous)),
+            Command(&[May(IMMEDIATE)], HeaderMeaning::Plain(Plain::Initiate)),
+            Command(
+                &[Must(CONTINUOUS)],
+                HeaderMeaning::Switch(Switch::Continuous),
+            ),
         ],
     }],
-    queries: &[Group {
+    queries: &[Subsystem {
         first: INITIATE,
         rows: &[Query(
             &[Must(CONTINUOUS)],
-            Key::Query(PlainQuery::InitiateContinuous),
+            HeaderMeaning::Query(PlainQuery::InitiateContinuous),
         )],
     }],
 };
 
-static PATHS_T: Part = Part {
+static PATHS_T: HeadersByLetter = HeadersByLetter {
     commands: &[
-        Group {
+        Subsystem {
             first: TRIGGER,
             rows: &[
-                Command(&[Must(COUNT)], Key::Whole(Whole::Count(Trigger))),
-                Command(&[Must(SOURCE)], Key::Source(Trigger)),
-                Command(&[Must(DELAY)], Key::Time(Time::Delay, Trigger)),
-                Command(&[Must(TIMER)], Key::Time(Time::Timer, Trigger)),
-                Command(&[Must(SIGNAL)], Key::Signal(Trigger)),
+                Command(
+                    &[Must(COUNT)],
+                    HeaderMeaning::Numeric(Numeric::Count(Trigger)),
+                ),
+                Command(&[Must(SOURCE)], HeaderMeaning::Source(Trigger)),
+                Command(&[Must(DELAY)], HeaderMeaning::Time(Time::Delay, Trigger)),
+                Command(&[Must(TIMER)], HeaderMeaning::Time(Time::Timer, Trigger)),
+                Command(&[Must(SIGNAL)], HeaderMeaning::Signal(Trigger)),
             ],
         },
-        Group {
+        Subsystem {
             first: TRACE,
-            rows: &[Command(&[Must(POINTS)], Key::Whole(Whole::Points))],
+            rows: &[Command(&[Must(POINTS)], HeaderMeaning::Numeric(Numeric::Points))],
         },
     ],
     queries: &[
-        Group {
+        Subsystem {
             first: TRIGGER,
             rows: &[
-                Query(&[Must(COUNT)], Key::LayerQuery(LayerQuery::Count, Trigger)),
+                Query(
+                    &[Must(COUNT)],
+                    HeaderMeaning::LayerQuery(LayerQuery::Count, Trigger),
+                ),
                 Query(
                     &[Must(SOURCE)],
-                    Key::LayerQuery(LayerQuery::Source, Trigger),
+                    HeaderMeaning::LayerQuery(LayerQuery::Source, Trigger),
                 ),
-                Query(&[Must(DELAY)], Key::LayerQuery(LayerQuery::Delay, Trigger)),
-                Query(&[Must(TIMER)], Key::LayerQuery(LayerQuery::Timer, Trigger)),
+                Query(
+                    &[Must(DELAY)],
+                    HeaderMeaning::LayerQuery(LayerQuery::Delay, Trigger),
+                ),
+                Query(
+                    &[Must(TIMER)],
+                    HeaderMeaning::LayerQuery(LayerQuery::Timer, Trigger),
+                ),
             ],
         },
-        Group {
+        Subsystem {
             first: TRACE,
             rows: &[
-                Query(&[Must(POINTS)], Key::Query(PlainQuery::Points)),
+                Query(&[Must(POINTS)], HeaderMeaning::Query(PlainQuery::Points)),
                 Query(
                     &[Must(POINTS), Must(ACTUAL)],
-                    Key::Query(PlainQuery::ActualPoints),
+                    HeaderMeaning::Query(PlainQuery::ActualPoints),
                 ),
             ],
         },
     ],
 };
 
-static PATHS_R: Part = Part {
-    commands: &[Group {
+static PATHS_R: HeadersByLetter = HeadersByLetter {
+    commands: &[Subsystem {
         first: ROUTE,
         rows: &[
-            Command(&[Must(CLOSE)], Key::Channels(Channels::Close)),
-            Command(&[Must(OPEN)], Key::Channels(Channels::Open)),
-            Command(&[Must(OPEN), Must(ALL)], Key::Plain(Plain::OpenAll)),
+            Command(&[Must(CLOSE)], HeaderMeaning::Channels(Channels::Close)),
+            Command(&[Must(OPEN)], HeaderMeaning::Channels(Channels::Open)),
+            Command(
+                &[Must(OPEN), Must(ALL)],
+                HeaderMeaning::Plain(Plain::OpenAll),
+            ),
             Command(
                 &[Must(CHANNEL), Must(DELAY)],
-                Key::Time(Time::Settling, Trigger),
+                HeaderMeaning::Time(Time::Settling, Trigger),
             ),
-            Command(&[Must(SCAN)], Key::Scan),
-            Command(&[Must(SCAN), Must(METER)], Key::Whole(Whole::ScanMeter)),
-            Command(&[Must(SCAN), Must(PROGRAM), May(DEFINE)], Key::Program),
+            Command(&[Must(SCAN)], HeaderMeaning::Scan),
+            Command(
+                &[Must(SCAN), Must(METER)],
+                HeaderMeaning::Numeric(Numeric::ScanMeter),
+            ),
+            Command(
+                &[Must(SCAN), Must(PROGRAM), May(DEFINE)],
+                HeaderMeaning::Program,
+            ),
             Command(
                 &[Must(SCAN), Must(PROGRAM), Must(STATE)],
-                Key::Switch(Switch::Programmed),
+                HeaderMeaning::Switch(Switch::Programmed),
             ),
-            Command(&[Must(SCAN), Must(PROGRAM), Must(DELETE)], Key::NoProgram),
+            Command(
+                &[Must(SCAN), Must(PROGRAM), Must(DELETE)],
+                HeaderMeaning::NoProgram,
+            ),
         ],
     }],
     queries: &[
-        Group {
+        Subsystem {
             first: ROUTE,
             rows: &[
-                Query(&[Must(CLOSE)], Key::Channels(Channels::CloseQuery)),
+                Query(
+                    &[Must(CLOSE)],
+                    HeaderMeaning::Channels(Channels::CloseQuery),
+                ),
                 Query(
                     &[Must(CLOSE), Must(STATE)],
-                    Key::Query(PlainQuery::CloseState),
+                    HeaderMeaning::Query(PlainQuery::CloseState),
                 ),
-                Query(&[Must(OPEN)], Key::Channels(Channels::OpenQuery)),
+                Query(&[Must(OPEN)], HeaderMeaning::Channels(Channels::OpenQuery)),
                 Query(
                     &[Must(CHANNEL), Must(DELAY)],
-                    Key::Query(PlainQuery::Settling),
+                    HeaderMeaning::Query(PlainQuery::Settling),
                 ),
-                Query(&[Must(SCAN)], Key::Query(PlainQuery::Scan)),
+                Query(&[Must(SCAN)], HeaderMeaning::Query(PlainQuery::Scan)),
                 Query(
                     &[Must(SCAN), Must(METER)],
-                    Key::Query(PlainQuery::ScanMeter),
+                    HeaderMeaning::Query(PlainQuery::ScanMeter),
                 ),
                 Query(
                     &[Must(SCAN), Must(PROGRAM), May(DEFINE)],
-                    Key::Query(PlainQuery::Program),
+                    HeaderMeaning::Query(PlainQuery::Program),
                 ),
                 Query(
                     &[Must(SCAN), Must(PROGRAM), Must(STATE)],
-                    Key::Query(PlainQuery::Programmed),
+                    HeaderMeaning::Query(PlainQuery::Programmed),
                 ),
             ],
         },
-        Group {
+        Subsystem {
             first: READ,
-            rows: &[Query(&[], Key::Plain(Plain::Read))],
+            rows: &[Query(&[], HeaderMeaning::Plain(Plain::Read))],
         },
     ],
 };
 
-static PATHS_S: Part = Part {
-    commands: &[Group {
+static PATHS_S: HeadersByLetter = HeadersByLetter {
+    commands: &[Subsystem {
         first: STATUS,
         rows: &[
             Command(
                 &[Must(OPERATION), Must(ENABLE)],
-                Key::Whole(Whole::Enable(Operation)),
+                HeaderMeaning::Numeric(Numeric::Enable(Operation)),
             ),
             Command(
                 &[Must(OPERATION), Must(PTRANSITION)],
-                Key::Whole(Whole::PositiveTransition(Operation)),
+                HeaderMeaning::Numeric(Numeric::PositiveTransition(Operation)),
             ),
             Command(
                 &[Must(OPERATION), Must(NTRANSITION)],
-                Key::Whole(Whole::NegativeTransition(Operation)),
+                HeaderMeaning::Numeric(Numeric::NegativeTransition(Operation)),
             ),
             Command(
                 &[Must(QUESTIONABLE), Must(ENABLE)],
-                Key::Whole(Whole::Enable(Questionable)),
+                HeaderMeaning::Numeric(Numeric::Enable(Questionable)),
             ),
             Command(
                 &[Must(QUESTIONABLE), Must(PTRANSITION)],
-                Key::Whole(Whole::PositiveTransition(Questionable)),
+                HeaderMeaning::Numeric(Numeric::PositiveTransition(Questionable)),
             ),
             Command(
                 &[Must(QUESTIONABLE), Must(NTRANSITION)],
-                Key::Whole(Whole::NegativeTransition(Questionable)),
+                HeaderMeaning::Numeric(Numeric::NegativeTransition(Questionable)),
             ),
-            Command(&[Must(PRESET)], Key::Plain(Plain::Preset)),
+            Command(&[Must(PRESET)], HeaderMeaning::Plain(Plain::Preset)),
         ],
     }],
     queries: &[
-        Group {
+        Subsystem {
             first: STATUS,
             rows: &[
                 Query(
                     &[Must(OPERATION), May(EVENT)],
-                    Key::ReadOut(StatusRead::GroupEvent(Operation)),
+                    HeaderMeaning::ReadOut(StatusRead::GroupEvent(Operation)),
                 ),
                 Query(
                     &[Must(OPERATION), Must(CONDITION)],
-                    Key::GroupQuery(GroupQuery::Condition, Operation),
+                    HeaderMeaning::GroupQuery(GroupQuery::Condition, Operation),
                 ),
                 Query(
                     &[Must(OPERATION), Must(ENABLE)],
-                    Key::GroupQuery(GroupQuery::Enable, Operation),
+                    HeaderMeaning::GroupQuery(GroupQuery::Enable, Operation),
                 ),
                 Query(
                     &[Must(OPERATION), Must(PTRANSITION)],
-                    Key::GroupQuery(GroupQuery::PositiveTransition, Operation),
+                    HeaderMeaning::GroupQuery(GroupQuery::PositiveTransition, Operation),
                 ),
                 Query(
                     &[Must(OPERATION), Must(NTRANSITION)],
-                    Key::GroupQuery(GroupQuery::NegativeTransition, Operation),
+                    HeaderMeaning::GroupQuery(GroupQuery::NegativeTransition, Operation),
                 ),
                 Query(
                     &[Must(QUESTIONABLE), May(EVENT)],
-                    Key::ReadOut(StatusRead::GroupEvent(Questionable)),
+                    HeaderMeaning::ReadOut(StatusRead::GroupEvent(Questionable)),
                 ),
                 Query(
                     &[Must(QUESTIONABLE), Must(CONDITION)],
-                    Key::GroupQuery(GroupQuery::Condition, Questionable),
+                    HeaderMeaning::GroupQuery(GroupQuery::Condition, Questionable),
                 ),
                 Query(
                     &[Must(QUESTIONABLE), Must(ENABLE)],
-                    Key::GroupQuery(GroupQuery::Enable, Questionable),
+                    HeaderMeaning::GroupQuery(GroupQuery::Enable, Questionable),
                 ),
                 Query(
                     &[Must(QUESTIONABLE), Must(PTRANSITION)],
-                    Key::GroupQuery(GroupQuery::PositiveTransition, Questionable),
+                    HeaderMeaning::GroupQuery(GroupQuery::PositiveTransition, Questionable),
                 ),
                 Query(
                     &[Must(QUESTIONABLE), Must(NTRANSITION)],
-                    Key::GroupQuery(GroupQuery::NegativeTransition, Questionable),
+                    HeaderMeaning::GroupQuery(GroupQuery::NegativeTransition, Questionable),
                 ),
             ],
         },
-        Group {
+        Subsystem {
             first: SYSTEM,
             rows: &[
                 Query(
                     &[Must(ERROR), May(NEXT)],
-                    Key::ReadOut(StatusRead::NextError),
+                    HeaderMeaning::ReadOut(StatusRead::NextError),
                 ),
                 Query(
                     &[Must(ERROR), Must(ALL)],
-                    Key::ReadOut(StatusRead::AllErrors),
+                    HeaderMeaning::ReadOut(StatusRead::AllErrors),
                 ),
                 Query(
                     &[Must(ERROR), Must(COUNT)],
-                    Key::Query(PlainQuery::ErrorCount),
+                    HeaderMeaning::Query(PlainQuery::ErrorCount),
                 ),
                 Query(
                     &[Must(HELP), Must(HEADERS)],
-                    Key::Query(PlainQuery::Headers),
+                    HeaderMeaning::Query(PlainQuery::Headers),
                 ),
-                Query(&[Must(VERSION)], Key::Query(PlainQuery::Version)),
-                Query(&[Must(CARD_TYPE)], Key::Whole(Whole::Slot(SlotQuery::Kind))),
+                Query(&[Must(VERSION)], HeaderMeaning::Query(PlainQuery::Version)),
+                Query(
+                    &[Must(CARD_TYPE)],
+                    HeaderMeaning::Numeric(Numeric::Slot(SlotQuery::Kind)),
+                ),
                 Query(
                     &[Must(CARD_TYPE), Must(GROUPS)],
-                    Key::Whole(Whole::Slot(SlotQuery::Groups)),
+                    HeaderMeaning::Numeric(Numeric::Slot(SlotQuery::Groups)),
                 ),
                 Query(
                     &[Must(CARD_TYPE), Must(STATE)],
-                    Key::Whole(Whole::Slot(SlotQuery::State)),
+                    HeaderMeaning::Numeric(Numeric::Slot(SlotQuery::State)),
                 ),
             ],
         },
     ],
 };
 
-static PATHS_D: Part = Part {
+static PATHS_D: HeadersByLetter = HeadersByLetter {
     commands: &[],
-    queries: &[Group {
+    queries: &[Subsystem {
         first: DIAGNOSTIC,
         rows: &[
-            Query(&[Must(SCAN), Must(BOUND)], Key::Query(PlainQuery::Bound)),
-            Query(&[Must(SCAN), Must(CHECK)], Key::ScanCheck),
+            Query(
+                &[Must(SCAN), Must(BOUND)],
+                HeaderMeaning::Query(PlainQuery::Bound),
+            ),
+            Query(&[Must(SCAN), Must(CHECK)], HeaderMeaning::ScanCheck),
             Query(
                 &[Must(CLOSE), Must(CHECK)],
-                Key::Channels(Channels::CloseCheck),
+                HeaderMeaning::Channels(Channels::CloseCheck),
             ),
         ],
     }],
 };
 
-static PATHS_F: Part = Part {
+static PATHS_F: HeadersByLetter = HeadersByLetter {
     commands: &[],
-    queries: &[Group {
+    queries: &[Subsystem {
         first: FETCH,
-        rows: &[Query(&[], Key::Plain(Plain::Fetch))],
+        rows: &[Query(&[], HeaderMeaning::Plain(Plain::Fetch))],
     }],
 };
 
 /// The other commands that begin with this letter.
-pub fn path_at(letter: u8) -> &'static Part
+pub fn path_at(letter: u8) -> &'static HeadersByLetter
     ensures { IsPart (false, to_ascii_uppercase letter) result.now }
 {
     match letter.to_ascii_uppercase() {

@@ -7,7 +7,7 @@ use sw_base::StatusGroup;
 
 /// Which command a header is, by the data that it takes.
 #[derive(Clone, Copy, Debug, PartialEq, Eq)]
-pub enum Key {
+pub enum HeaderMeaning {
     /// A command without data.
     Plain(Plain),
     /// A query that changes nothing.
@@ -33,7 +33,7 @@ pub enum Key {
     /// `DIAGnostic:SCAN:CHECk?`
     ScanCheck,
     /// A command with a whole number.
-    Whole(Whole),
+    Numeric(Numeric),
     /// A layer's delay, or its timer.
     Time(Time, Family),
     /// A layer's source.
@@ -61,7 +61,7 @@ pub enum Switch {
 
 /// The commands and queries with a whole number.
 #[derive(Clone, Copy, Debug, PartialEq, Eq)]
-pub enum Whole {
+pub enum Numeric {
     EventEnable,
     ServiceEnable,
     Count(Family),

@@ -14,7 +14,7 @@ use crate::choice::{greatest, least, least_micros, of_whole};
 use crate::command::{Command, MacroCommand, Setting, Time};
 use crate::elements::value;
 use crate::headers::is_form;
-use crate::table::{Switch, Whole};
+use crate::table::{Numeric, Switch};
 use sw_base::{
     LONGEST_DELAY, LayerName, Nrf, ScpiError, Source, Unit, blanks, digits, letters, read_exponent,
     read_mantissa,
@@ -75,7 +75,7 @@ fn natural(n: &Nrf<'_>, low: u32, high: u32) -> Result<u32, ScpiError>
 }
 
 /// The command with this number, which takes no suffix.
-pub fn whole_of(ask: Whole, number: u8, n: &Nrf<'_>, suffix: &[u8]) -> Result<Command, ScpiError>
+pub fn whole_of(ask: Numeric, number: u8, n: &Nrf<'_>, suffix: &[u8]) -> Result<Command, ScpiError>
     ensures { result ≡ whole_of ask number n.now suffix.now }
 {
     match suffix {
@@ -93,7 +93,7 @@ pub fn is_plain(text: &[u8]) -> bool
 }
 
 /// The command with the number that these digits write, at most nine.
-pub fn plain_of(ask: Whole, number: u8, digits: &[u8]) -> Result<Command, ScpiError>
+pub fn plain_of(ask: Numeric, number: u8, digits: &[u8]) -> Result<Command, ScpiError>
     requires numeric { AllPass is_digit digits.now }
     requires few { length digits.now ≤ 9 }
     ensures { result ≡ whole_of ask number (digits_written digits.now) [] }

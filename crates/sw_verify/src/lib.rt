@@ -50,6 +50,6 @@ pub use program::{ProgramFault, ScanProgram};
 pub use ready::{check, first_blocked};
 pub use refusal::Refusal;
 pub use setup::{Loaded, Setup};
-pub use snapshot::{BoxedSnapshot, Snapshot};
+pub use snapshot::Snapshot;
 pub use sources::Sources;
 pub use verified::{Verified, verify};

@@ -19,12 +19,12 @@ use crate::course::Course;
 use crate::program::ScanProgram;
 use crate::ready::check;
 use crate::refusal::Refusal;
-use crate::snapshot::{BoxedSnapshot, Snapshot};
+use crate::snapshot::Snapshot;
 use crate::sources::Sources;
-use crate::verified::{BoxedVerified, Verified, verify};
+use crate::verified::{Verified, verify};
 use std::alloc::Global;
 use std::marker::Model;
-use sw_base::Source;
+use sw_base::{Boxed, Source};
 use sw_code::{Code, Step, compile};
 use sw_trigger::Settings;
 
@@ -33,8 +33,8 @@ use sw_trigger::Settings;
 /// Contracts see the snapshot, which the code follows from.
 #[derive(Debug, Drop)]
 pub struct Plan {
-    snapshot: BoxedSnapshot,
-    verified: BoxedVerified,
+    snapshot: Boxed<Snapshot>,
+    verified: Boxed<Verified>,
 }
 
 impl Model for Plan {
@@ -52,7 +52,7 @@ impl Model for Plan {
 impl Plan {
     /// The plan of a snapshot that passes the check, by code that was verified; else the first refusal that applies, or
     /// `NoMemory`.
-    pub fn make(alloc: Global, snapshot: BoxedSnapshot) -> Result<Plan, Refusal>
+    pub fn make(alloc: Global, snapshot: Boxed<Snapshot>) -> Result<Plan, Refusal>
         ensures ready { IfOk result (λ p. IsReady snapshot) }
         ensures plan { IfOk result (λ p. p ≡ snapshot) }
         ensures refused { IfErr result (λ r. IsRefusedScan r snapshot) }
@@ -114,14 +114,14 @@ fn verified_code(alloc: Global, snapshot: &Snapshot) -> Result<Verified, Refusal
 }
 
 /// The same in a box.
-fn boxed_code(alloc: Global, snapshot: &Snapshot) -> Result<BoxedVerified, Refusal>
+fn boxed_code(alloc: Global, snapshot: &Snapshot) -> Result<Boxed<Verified>, Refusal>
     ensures ready { IfOk result (λ v. IsReady snapshot.now) }
     ensures code { IfOk result (λ v. v.code ≡ code_of snapshot.now.settings) }
     ensures unfolds { IfOk result (λ v. Unfolds v.code.steps (agenda snapshot.now.settings)) }
     ensures refused { IfErr result (λ r. IsRefusedScan r snapshot.now) }
 {
     let verified = verified_code(alloc, snapshot)?;
-    match BoxedVerified::new(alloc, verified) {
+    match Boxed::new(alloc, verified) {
         Ok(boxed) => Ok(boxed),
         Err(_) => Err(Refusal::NoMemory),
     }

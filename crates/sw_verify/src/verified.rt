@@ -12,7 +12,7 @@ use crate::look::look;
 use crate::nest::nesting;
 use crate::refusal::Refusal;
 use crate::tally::tally;
-use std::alloc::{AllocError, Global};
+use std::alloc::Global;
 use std::marker::Model;
 use sw_base::Chan;
 use sw_code::Code;
@@ -69,44 +69,6 @@ impl Verified {
     {
         let Verified { code, .. } = self;
         code
-    }
-}
-
-/// A verified code in a box, cheap to move. Contracts see the verified code.
-#[derive(Debug, Drop)]
-pub struct BoxedVerified {
-    kept: Box<Verified>,
-}
-
-impl Model for BoxedVerified {
-    ghost use Rattle.sw_verify.specs.Judged.{Judged};
-
-    ghost Value = { Judged };
-
-    ghost view = { λ b. b.kept.value };
-}
-
-impl BoxedVerified {
-    /// Puts a verified code into a box.
-    pub fn new(alloc: Global, verified: Verified) -> Result<BoxedVerified, AllocError>
-        ensures { IfOk result (λ b. b ≡ verified) }
-    {
-        let kept = Box::new(alloc, verified)?;
-        Ok(BoxedVerified { kept })
-    }
-
-    /// The verified code.
-    pub fn get(&self) -> &Verified
-        ensures { result.now ≡ self.now }
-    {
-        &self.kept
-    }
-
-    /// The verified code, out of its box.
-    pub fn into_inner(self) -> Verified
-        ensures { result ≡ self }
-    {
-        Box::into_inner(self.kept)
     }
 }
 
