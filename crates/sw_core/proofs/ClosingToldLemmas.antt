@@ -1,8 +1,8 @@
 -- `ok` is told of a closing exactly where it is refused by nothing.
-use Rattle.std.proofs.Common.{◌≡◌, ◌≢◌, ℕ, ◌==◌, ◌&&◌, ◌||◌, not, Bool, true, false, List, [], ◌∷◌, ◌++◌, Option, None, Some, if◌then◌else◌}
+use Rattle.std.proofs.Common.{◌≡◌, ℕ, ◌==◌, ◌&&◌, not, Bool, true, false, List, [], ◌∷◌, ◌++◌, Option, None, Some, if◌then◌else◌}
 use Rattle.std.proofs.Common.{refl, ap, sym, subst, ◌∙◌, arith, ◌⊎◌, inl, inr, append_assoc}
 use Rattle.std.specs.Prelude.{codes, slice_index_or}
-use Rattle.std.specs.List.{list_all, list_any}
+use Rattle.std.specs.List.{list_all}
 use Rattle.std.proofs.lemmas.Bool.{and_parts, and_from, or_cases, or_left, or_right}
 use Rattle.std.proofs.lemmas.Bool.Decides.{nat_tests}
 use Rattle.std.proofs.lemmas.List.{append-nil}
@@ -12,9 +12,9 @@ use Rattle.sw_base.specs.Layout.{Channel, Layout, is_present, group_of, IsClash}
 use Rattle.sw_channel.specs.Positions.{same_channel, is_among}
 use Rattle.sw_verify.proofs.Round.{same_channel_is, same_channel_self}
 use Rattle.sw_cage.specs.Accounts.{layout_of, is_closed}
-use Rattle.sw_cage.specs.Cage.{CageSeen, cage_layout}
+use Rattle.sw_cage.specs.Cage.{cage_layout}
 use Rattle.sw_cage.specs.Channels.{closed_list}
-use Rattle.sw_cage.specs.Close.{all_present, closed_with, HasClash}
+use Rattle.sw_cage.specs.Close.{all_present, closed_with}
 use Rattle.sw_cage.proofs.LayoutLemmas.{present_with, group_with, clash_with}
 use Rattle.sw_cage.proofs.AdvanceLemmas.{lengths}
 use Rattle.sw_cage.proofs.ClosedMemberLemmas.{among_closed}

@@ -1,13 +1,13 @@
 -- The first channel of the positions that may not be closed, and whether each position may be.
-use Rattle.std.proofs.Common.{◌≡◌, ℕ, ◌<◌, ◌&&◌, ◌||◌, Bool, true, false, List, [], ◌∷◌, ◌++◌, length, take, Option, None, Some, if◌then◌else◌}
-use Rattle.std.proofs.Common.{refl, ap, sym, subst, ◌∙◌, arith, ◌⊎◌, inl, inr, zero, suc}
+use Rattle.std.proofs.Common.{◌≡◌, ℕ, ◌<◌, ◌||◌, Bool, true, false, List, [], ◌∷◌, ◌++◌, length, take, Option, None, Some, if◌then◌else◌}
+use Rattle.std.proofs.Common.{refl, ap, sym, subst, ◌∙◌, arith, inl, inr, zero, suc}
 use Rattle.std.specs.Prelude.{slice_index_or, nat_lt}
-use Rattle.std.specs.List.{list_all, list_any, Any, AllByRecursion}
-use Rattle.std.proofs.lemmas.Bool.{and_parts, and_from, or_cases, or_left, or_right, both_ways}
+use Rattle.std.specs.List.{list_all, Any, AllByRecursion}
+use Rattle.std.proofs.lemmas.Bool.{and_parts, and_from, both_ways}
 use Rattle.std.proofs.lemmas.Bool.Decides.{nat_tests}
 use Rattle.std.proofs.lemmas.List.Folds.{list_any-append}
 use mathlib.Core.Path.{fun_ext}
-use Rattle.sw_base.specs.Layout.{Channel, Layout, is_present, IsClash}
+use Rattle.sw_base.specs.Layout.{Channel, Layout, is_present}
 use Rattle.sw_channel.specs.Positions.{Position, same_channel, is_among}
 use Rattle.sw_trigger.specs.Settings.{SettingsSeen}
 use Rattle.sw_trigger.specs.Counts.{readings_of}

@@ -1,11 +1,11 @@
 //! The mainframe's asks, and its answers.
 
 use crate::answer_text::AnswerText;
-use sw_base::{ScpiError, Sequence};
+use sw_base::{Boxed, ScpiError, Sequence};
 use sw_cage::{EjectRefusal, Finished, InstallRefusal, Job, Ticket};
 use sw_card::{Card, Meter, Relay};
 use sw_lex::Command;
-use sw_verify::{BoxedSnapshot, Plan};
+use sw_verify::{Plan, Snapshot};
 
 /// A session: its number, 1 to `SESSIONS`, and the number of events after its Join, which distinguishes it from an
 /// earlier session of that number.
@@ -78,7 +78,7 @@ pub enum SessionAnswer {
     /// Whether a session holds the exclusive lock, and how many sessions hold a lock.
     Info(bool, u8),
     /// What a scan would begin from, and the number of the last scan that began.
-    Snapshot(BoxedSnapshot, u64),
+    Snapshot(Boxed<Snapshot>, u64),
     /// The mainframe refused it, for this error.
     Refused(ScpiError),
     /// The mainframe can't do it yet: the session asks it again after a wait.

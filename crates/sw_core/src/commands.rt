@@ -3,23 +3,24 @@
 ghost use Rattle.std.specs.Prelude.{◌≡◌, ◌&&◌, None, false};
 ghost use Rattle.sw_cage.specs.Change.{any_failed};
 ghost use Rattle.sw_lex.specs.declared.command.Command.{Command};
-ghost use Rattle.sw_core.specs.Action.{action_of, plain_action, channels_action, setting_action, is_trigger};
-ghost use Rattle.sw_core.specs.Action.{awaits_end};
+ghost use Rattle.sw_core.specs.Action.{action_of, plain_action, channels_action, setting_action, awaits_end};
 ghost use Rattle.sw_core.specs.Panel.{is_running};
 ghost use Rattle.sw_core.specs.declared.ask.SessionAsk.{SessionAsk};
+ghost use Rattle.sw_core.specs.Seen.{work_seen};
 ghost use Rattle.sw_core.specs.Step.{StepAction, TakesSetting};
 
-use crate::ask::SessionAnswer;
+use crate::ask::{SessionAnswer, Work};
 use crate::state::Core;
 use std::alloc::Global;
 use sw_base::{Chan, ScpiError};
+use sw_cage::Happening;
 use sw_card::{Meter, Relay};
 use sw_lex::{Channels, Command, Plain, Setting, Time};
 
 impl<R: Relay, M: Meter> Core<R, M> {
-    /// Carries out a command that the cage offers to no scan and that the mainframe doesn't hold, or refuses it while a
-    /// scan runs; `available` says whether its message has answered before, so that a message is available. A command
-    /// that has no row here doesn't compile.
+    /// Carries out a joined session's command, which nothing holds, or refuses it while a scan runs; `available` says
+    /// whether its message has answered before, so that a message is available. It leaves in `work` what the scan
+    /// awaits now. A command that has no row here doesn't compile.
     #[tactic(auto, using(crate::proofs::CallsLemmas::failed_same))]
     #[inline(never)]
     pub(crate) fn command(
@@ -27,14 +28,16 @@ impl<R: Relay, M: Meter> Core<R, M> {
         alloc: Global,
         command: Command,
         available: bool,
+        work: &mut Option<Work<M>>,
     ) -> SessionAnswer
-        requires alone { is_trigger command ≡ false }
         requires unheld { awaits_end command && is_running self.old ≡ false }
+        requires empty { work.old ≡ None }
         ensures { (ask : SessionAsk) → StepAction (action_of available command) self.old ask
-            (any_failed self.old.cage.cards self.new.cage.cards) result None self.new }
+            (any_failed self.old.cage.cards self.new.cage.cards) result (work_seen work.new) self.new }
     {
         match command {
-            Command::Plain(plain) => self.plain(alloc, plain),
+            Command::Plain(plain) => self.plain(alloc, plain, work),
+            Command::Signal(layer) => self.signal(layer, work),
             Command::Query(query) => self.tell(alloc, query, available),
             Command::LayerQuery(query, layer) => self.tell_layer(query, layer),
             Command::GroupQuery(query, group) => self.tell_group(query, group),
@@ -48,18 +51,17 @@ impl<R: Relay, M: Meter> Core<R, M> {
             Command::SetStatus(setting) => self.set_status(setting),
             Command::Macros(_) | Command::Macro(_) => undefined(),
             Command::ScanReadings(number, count) => self.scan_readings(alloc, number, count),
-            Command::Signal(_) => unreachable!(),
         }
     }
 
     /// Carries a command without data out.
     #[tactic(auto, using(crate::proofs::CallsLemmas::failed_same))]
     #[inline(always)]
-    fn plain(&mut self, alloc: Global, plain: Plain) -> SessionAnswer
-        requires alone { is_trigger (Command.Plain plain) ≡ false }
+    fn plain(&mut self, alloc: Global, plain: Plain, work: &mut Option<Work<M>>) -> SessionAnswer
         requires unheld { awaits_end (Command.Plain plain) && is_running self.old ≡ false }
+        requires empty { work.old ≡ None }
         ensures { (ask : SessionAsk) → StepAction (plain_action plain) self.old ask
-            (any_failed self.old.cage.cards self.new.cage.cards) result None self.new }
+            (any_failed self.old.cage.cards self.new.cage.cards) result (work_seen work.new) self.new }
     {
         match plain {
             Plain::Reset => self.reset(),
@@ -67,13 +69,13 @@ impl<R: Relay, M: Meter> Core<R, M> {
             Plain::OperationComplete => self.complete_operation(),
             Plain::OperationCompleteQuery => self.number(1),
             Plain::Wait => SessionAnswer::Done(None),
+            Plain::Trigger => self.trigger(Happening::Bus, ScpiError::TriggerIgnored, work),
             Plain::Abort => self.abort(),
             Plain::Initiate | Plain::Read => undefined(),
             Plain::OpenAll if self.cage.is_running() => conflict(),
             Plain::OpenAll => self.open_everything(),
             Plain::Preset => self.preset(),
             Plain::Fetch => self.fetch(alloc),
-            Plain::Trigger => unreachable!(),
         }
     }
 

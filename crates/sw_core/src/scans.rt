@@ -12,9 +12,9 @@ ghost use Rattle.sw_core.specs.declared.ask.Ask.TheVariants as Ask;
 ghost use Rattle.sw_core.specs.Step.{Happens, StepHappens, StepOutside, StepFinished, StepSnapshot, StepStart};
 ghost use Rattle.sw_core.specs.Step.{RefusesScan, MayScan, session_told, outside_told, started_answer, work_of};
 ghost use Rattle.sw_core.specs.Run.{StepBrings};
-ghost use Rattle.sw_core.specs.Step.{StepJoined, Brings, snapshot_of};
-ghost use Rattle.sw_core.specs.declared.ask.Sid.{Sid};
-ghost use Rattle.sw_core.specs.declared.ask.SessionAsk.TheVariants.{Unit};
+ghost use Rattle.sw_core.specs.Action.{action_of};
+ghost use Rattle.sw_core.specs.Step.{StepAction, Brings, snapshot_of};
+ghost use Rattle.sw_core.specs.declared.ask.SessionAsk.{SessionAsk};
 ghost use Rattle.sw_lex.specs.declared.command.Command.TheVariants as Command;
 
 use crate::ask::{Answer, SessionAnswer, Work};
@@ -22,11 +22,11 @@ use crate::asks::put;
 use crate::registers::{report_card_fault, set_card_fault};
 use crate::state::Core;
 use std::alloc::{AllocError, Global};
-use sw_base::{LayerName, ScpiError, Sequence};
+use sw_base::{Boxed, LayerName, ScpiError, Sequence};
 use sw_cage::{Finished, Happening, Taken, Ticket};
 use sw_card::{Meter, Relay};
 use sw_status::Status;
-use sw_verify::{BoxedSnapshot, Plan, Snapshot};
+use sw_verify::{Plan, Snapshot};
 
 /// The work that a scan awaits after this outcome.
 #[inline(always)]
@@ -109,40 +109,36 @@ impl<R: Relay, M: Meter> Core<R, M> {
         told
     }
 
-    /// Offers a session's happening to the scan; where no scan takes it, this error refuses it. It leaves the answer to
-    /// the session in `answer`, and what the scan awaits now in `work`.
+    /// Offers a session's happening to the scan; where no scan takes it, this error refuses it. It leaves in `work`
+    /// what the scan awaits now.
     #[inline(never)]
     pub(crate) fn trigger(
         &mut self,
         happening: Happening,
         error: ScpiError,
-        answer: &mut SessionAnswer,
         work: &mut Option<Work<M>>,
-    )
-        ensures { StepHappens self.old happening error (any_failed self.old.cage.cards self.new.cage.cards) answer.new
+    ) -> SessionAnswer
+        ensures { StepHappens self.old happening error (any_failed self.old.cage.cards self.new.cage.cards) result
             (work_seen work.new) self.new }
     {
         let told = self.happens(happening);
-        put(session_told(&told, error), answer);
+        let answer = session_told(&told, error);
         *work = work_of(told);
+        answer
     }
 
     /// Offers a layer's signal to the scan.
     #[inline(never)]
-    pub(crate) fn signal(
-        &mut self,
-        layer: LayerName,
-        answer: &mut SessionAnswer,
-        work: &mut Option<Work<M>>,
-    )
-        ensures { (sid : Sid) (available : Bool) → StepJoined self.old (Unit sid (Command.Signal layer) available)
-            (any_failed self.old.cage.cards self.new.cage.cards) answer.new (work_seen work.new) self.new }
+    pub(crate) fn signal(&mut self, layer: LayerName, work: &mut Option<Work<M>>) -> SessionAnswer
+        ensures { (ask : SessionAsk) (available : Bool)
+            → StepAction (action_of available (Command.Signal layer)) self.old ask
+            (any_failed self.old.cage.cards self.new.cage.cards) result (work_seen work.new) self.new }
     {
         let error = match layer {
             LayerName::Trigger => ScpiError::TriggerIgnored,
             LayerName::Arm(_) => ScpiError::ArmIgnored,
         };
-        self.trigger(Happening::Signal(layer), error, answer, work);
+        self.trigger(Happening::Signal(layer), error, work)
     }
 
     /// Offers a happening of no session to the scan.
@@ -251,7 +247,7 @@ impl<R: Relay, M: Meter> Core<R, M> {
         }
     }
 
-    fn take_snapshot(&self, alloc: Global) -> Result<BoxedSnapshot, AllocError>
+    fn take_snapshot(&self, alloc: Global) -> Result<Boxed<Snapshot>, AllocError>
         ensures { IfOk result (λ s. s ≡ snapshot_of self.now) }
     {
         let snapshot = Snapshot {
@@ -259,7 +255,7 @@ impl<R: Relay, M: Meter> Core<R, M> {
             layout: self.cage.layout(alloc)?,
             closed: Sequence::new(self.cage.closed_chans(alloc)?),
         };
-        BoxedSnapshot::new(alloc, snapshot)
+        Boxed::new(alloc, snapshot)
     }
 
     /// Begins the scan of a plan, where the plan was made of the state as it is now. It leaves what the scan awaits now

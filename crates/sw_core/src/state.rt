@@ -297,32 +297,7 @@ impl<R: Relay, M: Meter> Core<R, M> {
             hold_unit(sid, command, available, answer);
             return;
         }
-        self.carry_out(alloc, command, available, answer, work);
-    }
-
-    /// Carries out a joined session's command, which nothing holds.
-    #[tactic(auto, using(crate::proofs::CallsLemmas::failed_same))]
-    #[inline(always)]
-    fn carry_out(
-        &mut self,
-        alloc: Global,
-        command: Command,
-        available: bool,
-        answer: &mut SessionAnswer,
-        work: &mut Option<Work<M>>,
-    )
-        requires unheld { awaits_end command && is_running self.old ≡ false }
-        requires empty { work.old ≡ None }
-        ensures { (sid : Sid) → StepJoined self.old (Unit sid command available)
-            (any_failed self.old.cage.cards self.new.cage.cards) answer.new (work_seen work.new) self.new }
-    {
-        match command {
-            Command::Plain(Plain::Trigger) => {
-                self.trigger(Happening::Bus, ScpiError::TriggerIgnored, answer, work);
-            }
-            Command::Signal(layer) => self.signal(layer, answer, work),
-            command => put(self.command(alloc, command, available), answer),
-        }
+        put(self.command(alloc, command, available, work), answer);
     }
 
     /// Does an ask other than a unit, of a session or of none, or drops it, holds it or answers `Stranger`.
@@ -421,7 +396,8 @@ impl<R: Relay, M: Meter> Core<R, M> {
                 put(SessionAnswer::Done(None), answer);
             }
             SessionAsk::Bus(_) => {
-                self.trigger(Happening::Bus, ScpiError::TriggerIgnored, answer, work);
+                let told = self.trigger(Happening::Bus, ScpiError::TriggerIgnored, work);
+                put(told, answer);
             }
             SessionAsk::Snapshot(_) => put(self.snapshot(alloc), answer),
             SessionAsk::Start(_, plan) => put(self.start(alloc, plan, work), answer),
