@@ -1,11 +1,11 @@
 -- Bytes are one list of messages and one rest.
-use Rattle.std.proofs.Common.{◌≡◌, ℕ, ◌+◌, ◌<◌, List, [], ◌∷◌, ◌++◌, length, take, refl, sym, ap, ap₂, ◌∙◌, append_assoc, length-append, arith, inl, inr}
+use Rattle.std.proofs.Common.{◌≡◌, ℕ, ◌+◌, ◌<◌, List, [], ◌∷◌, ◌++◌, length, take, drop, Some, refl, sym, ap, ap₂, ◌∙◌, append_assoc, length-append, arith, inl, inr}
 use Rattle.std.proofs.Common.{flat_map}
 use Rattle.std.specs.List.{AllByRecursion}
 use Rattle.sw_hislip.specs.declared.header.Header.{Header}
 use Rattle.sw_hislip.specs.declared.message.Message.{Message}
 use Rattle.sw_hislip.specs.Wire.{header, wire, header_of, IsWireMessage, HasHeader}
-use Rattle.sw_hislip.specs.Pending.{Waits}
+use Rattle.sw_hislip.specs.Pending.{Waits, IsFrontKind}
 use Rattle.sw_hislip.specs.Stream.{IsRest, Rests, OneStream}
 use Rattle.sw_hislip.proofs.Headers.{same_front, same_header}
 
@@ -17,6 +17,13 @@ message_begins bytes m more p e = record { whole = e ∙ append_assoc (header (h
 -- one header stands at the front
 pub one_header : (bytes : List ℕ) (h g : Header) (x y : List ℕ) → HasHeader bytes h x → HasHeader bytes g y → (h ≡ g) × (x ≡ y)
 one_header bytes h g x y a b = same_header h g x y a.proper b.proper (sym a.whole ∙ b.whole)
+
+-- the kind of the header at the front
+pub front_of : (bytes : List ℕ) (h : Header) → HasHeader bytes h (drop 16 bytes) → IsFrontKind bytes (Some h.kind)
+front_of bytes h a = record {
+  some = (h, drop 16 bytes, a, refl);
+  only = λ kind (g, got, b, is). ap (λ (x : Header). Some x.kind) (one_header bytes h g (drop 16 bytes) got a b).0 ∙ ap Some is;
+}
 
 -- one message stands at the front
 pub one_message : (m n : Message) (x y : List ℕ) → IsWireMessage m → IsWireMessage n → wire m ++ x ≡ wire n ++ y → (m ≡ n) × (x ≡ y)

@@ -1,10 +1,11 @@
 -- What a decoder has not taken yet, and what its calls make of it.
 use Rattle.std.specs.Prelude.{◌≡◌, ◌≢◌, ◌<◌, ◌≤◌, ◌*◌, ◌-◌, ℕ, ◌⊎◌, List, [], ◌∷◌, ◌++◌, length, take, drop, Option}
-use Rattle.std.specs.Prelude.{None, Some, Result, Ok, Err}
+use Rattle.std.specs.Prelude.{None, Some, IfSome, Result, Ok, Err}
 use Rattle.sw_base.specs.Limits.{most_bytes}
 use Rattle.sw_hislip.specs.declared.fault.WireFault.{WireFault}
 use Rattle.sw_hislip.specs.declared.fault.WireFault.TheVariants.{BadPrologue, TooLarge, NoMemory}
 use Rattle.sw_hislip.specs.declared.header.Header.{Header}
+use Rattle.sw_hislip.specs.declared.kind.Kind.{Kind}
 use Rattle.sw_hislip.specs.declared.message.Message.{Message}
 use Rattle.sw_hislip.specs.Wire.{HasHeader, wire, IsWireMessage}
 
@@ -31,6 +32,10 @@ pub record IsLean (d : DecoderSeen) : Type 0 where
 -- a decoder at the start
 abbrev pub nothing_fed : Pending
 nothing_fed = record { bytes = []; skip = 0 }
+
+-- of these bytes nothing was taken yet, and nothing is skipped
+abbrev pub heard : List ℕ → Pending
+heard bytes = record { bytes = bytes; skip = 0 }
 
 -- after a piece of the stream: the decoder keeps nothing of what it skips
 abbrev pub fed : Pending → List ℕ → Pending
@@ -88,3 +93,12 @@ abbrev pub ReadsHeader : List ℕ → Result (Option Header) WireFault → Type 
 ReadsHeader bytes (Ok None) = length bytes < 16
 ReadsHeader bytes (Ok (Some h)) = HasHeader bytes h (drop 16 bytes)
 ReadsHeader bytes (Err e) = (e ≡ BadPrologue) × HasWrongPrologue bytes
+
+-- the bytes begin with the header of a message of this kind
+abbrev pub BeginsWith : Kind → List ℕ → Type 0
+BeginsWith kind bytes = (h : Header) × (got : List ℕ) × HasHeader bytes h got × (h.kind ≡ kind)
+
+-- the kind of the message whose header is at the front, where there is one
+pub record IsFrontKind (bytes : List ℕ) (found : Option Kind) : Type 0 where
+  pub some : IfSome found (λ kind. BeginsWith kind bytes)
+  pub only : (kind : Kind) → BeginsWith kind bytes → found ≡ Some kind

@@ -1,10 +1,12 @@
 //! Bytes to messages.
 
 ghost use Rattle.std.specs.Prelude.{◌≡◌, ◌≤◌, ◌+◌, drop, length, IsOk, OnOk, OnErr};
-ghost use Rattle.sw_hislip.specs.Pending.{nothing_fed, fed, without_front, skipping, GivesNext, IsLean};
+ghost use Rattle.sw_hislip.specs.Pending.{nothing_fed, fed, heard, without_front, skipping, GivesNext, IsFrontKind};
+ghost use Rattle.sw_hislip.specs.Pending.{IsLean};
 
 use crate::fault::WireFault;
 use crate::header::{HEADER, read_header};
+use crate::kind::Kind;
 use crate::message::{LONGEST_PAYLOAD, Message};
 use std::alloc::{AllocError, Global};
 use std::marker::Model;
@@ -45,6 +47,18 @@ impl Decoder {
     {
         Decoder {
             buffer: Vec::new(alloc),
+            taken: 0,
+            skip: 0,
+        }
+    }
+
+    /// A decoder that was fed these bytes, in the memory that they are in.
+    pub fn of(bytes: Vec<u8>) -> Decoder
+        ensures heard { result.pending ≡ heard bytes.items }
+        ensures lean { IsLean result }
+    {
+        Decoder {
+            buffer: bytes,
             taken: 0,
             skip: 0,
         }
@@ -117,6 +131,17 @@ impl Decoder {
                     payload: Sequence::new(payload),
                 }))
             }
+        }
+    }
+
+    /// The kind of the message whose header is at the front; none where that is not whole, or doesn't begin with `HS`.
+    pub fn front_kind(&self) -> Option<Kind>
+        ensures { IsFrontKind self.now.pending.bytes result }
+    {
+        let (_, unread) = self.buffer.as_slice().split_at(self.taken);
+        match read_header(unread) {
+            Ok(Some(header)) => Some(header.kind),
+            _ => None,
         }
     }
 

@@ -26,6 +26,7 @@ mod message;
 pub use decoder::Decoder;
 pub use encoding::{encode, encode_into};
 pub use fault::WireFault;
+pub use header::HEADER;
 pub use kind::Kind;
 pub use laws::{
     cuts_do_not_matter, encoded_is_decoded, every_message_comes_out, locks_keep_their_rules,

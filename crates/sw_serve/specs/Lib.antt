@@ -4,4 +4,3 @@ pub mod Arrivals
 pub mod Orders
 pub mod Serving
 pub mod Partings
-pub mod Heard

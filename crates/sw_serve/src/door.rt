@@ -107,7 +107,11 @@ impl<'a, W: Wait + Clock + Copy + Drop, I: Read + AsRawFd + Drop, L: Log + Copy 
         };
         self.log.tell(Remark::Taken(self.taken, from));
         let connection = Tcp::new(self.alloc, stream).ok()?;
-        Visitor::new(self.alloc, connection, self.log, self.taken).ok()
+        Some(Visitor {
+            connection,
+            log: self.log,
+            number: self.taken,
+        })
     }
 }
 

@@ -35,4 +35,4 @@ pub use serving::{serve_cards, serve_over};
 pub use single::desk_for_one;
 pub use slot_card::{OwnCard, SlotCard, fit};
 pub use unfit::FitError;
-pub use visitor::{Heard, Told, Visitor};
+pub use visitor::{Heard, Visitor};

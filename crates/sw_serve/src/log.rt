@@ -14,7 +14,7 @@ pub enum Remark {
     /// A connection was taken: its number, from 1, and where it comes from.
     Taken(u32, SocketAddr),
     /// The connection of this number has joined as this session.
-    Joined(u32, u16),
+    Joined(u32, u8),
     /// It has ended.
     Left(u32, Parting),
     /// A call of the card that was offered to this slot has failed.
@@ -70,22 +70,18 @@ impl Log for Silent {
 /// The code of FatalError where there are too many clients.
 const TOO_MANY_CLIENTS: u8 = 4;
 
-/// How a connection that was served with this result has ended. `fatal`: the code of the FatalError that was sent;
-/// `is_heard`: something was read.
-pub fn parting_of(served: Result<(), ServeFault>, fatal: Option<u8>, is_heard: bool) -> Parting
-    ensures { result ≡ parting_of served fatal is_heard }
+/// How a connection that was served with this result has ended. `is_begun`: there was room and memory to begin.
+pub fn parting_of(is_begun: bool, served: Result<(), ServeFault>) -> Parting
+    ensures { result ≡ parting_of is_begun served }
 {
     match served {
         Ok(()) => Parting::End,
         Err(ServeFault::Wire) => Parting::BrokenHeader,
         Err(ServeFault::ReadBound) => Parting::ReadBound,
-        Err(ServeFault::NoMemory) if !is_heard => Parting::Full,
+        Err(ServeFault::NoMemory) if !is_begun => Parting::Full,
         Err(ServeFault::NoMemory) => Parting::NoMemory,
-        Err(ServeFault::Fatal) => match fatal {
-            Some(TOO_MANY_CLIENTS) => Parting::Full,
-            Some(code) => Parting::FatalError(code),
-            None => Parting::Fault,
-        },
+        Err(ServeFault::Fatal(TOO_MANY_CLIENTS)) => Parting::Full,
+        Err(ServeFault::Fatal(code)) => Parting::FatalError(code),
         Err(_) => Parting::Fault,
     }
 }

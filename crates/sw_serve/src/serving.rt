@@ -9,7 +9,6 @@ ghost use Rattle.sw_serve.specs.Fitting.{IsUnfitted, AreWelcome};
 ghost use Rattle.sw_serve.specs.SlotCards.{cards_seen, relay_seen, meter_seen};
 ghost use Rattle.sw_serve.specs.Serving.{ClosesDown};
 ghost use Rattle.sw_session.specs.Talk.{turns};
-ghost use Rattle.sw_workers.specs.Ahead.{left_ahead};
 ghost use Rattle.sw_workers.specs.Closing.{IsOpen, IsClosedDown};
 ghost use Rattle.sw_workers.specs.Connected.{mishaps, connection_seen, RunsSession};
 ghost use Rattle.sw_workers.specs.Work.{DeskPasses, desk_seen};
@@ -20,7 +19,7 @@ use crate::port::{Arrival, Port};
 use crate::slot_card::{SlotCard, fit};
 use crate::thread_pool::ThreadPool;
 use crate::unfit::FitError;
-use crate::visitor::{Heard, Told, Visitor};
+use crate::visitor::{Heard, Visitor};
 use crossbeam_channel::Receiver;
 use std::alloc::{AllocError, Global};
 use std::marker::Brand;
@@ -403,9 +402,9 @@ fn attend<
     ensures { IfSome result (λ ended. (desk : _)
         × RunsSession (λ before entry after. DeskPasses H.first H.over H.deserted
         (desk_seen before.part before.serves) entry (desk_seen after.part after.serves))
-        (mishaps C.In.Source C.Out.Sink C.Aside.Sink H.refused ended.reader.reader ended.writer ended.aside) turns
+        (mishaps C.In.ByteSource C.Out.Sink C.Aside.Sink H.refused ended.reader ended.writer ended.aside) turns
         (connection_seen desk (C.input connection) (C.pauses connection) (C.output connection))
-        (connection_seen ended.desk (left_ahead C.In.remaining ended.reader) (C.In.pauses ended.reader.reader)
+        (connection_seen ended.desk (C.In.remaining ended.reader) (C.In.pauses ended.reader)
         (C.Out.contents ended.writer)) ended.result) }
 {
     let desk = pool.desk();
@@ -427,18 +426,19 @@ fn desk_of<
     G: Gate + Drop,
     W: Wait + Clock + Copy + Drop,
     L: Log + Drop,
->(served: Option<Ended<SharedDesk<H, R, M, G, W>, Heard, Told<L>, Line>>) -> Left<H, R, M, G, W> {
+>(served: Option<Ended<SharedDesk<H, R, M, G, W>, Heard<L>, Line, Line>>) -> Left<H, R, M, G, W> {
     let Ended {
         desk,
         reader,
         writer,
         aside,
+        is_begun,
         result,
     } = served?;
+    reader.tell_end(is_begun, result);
     drop(reader);
-    drop(aside);
-    writer.tell_end(result);
     drop(writer);
+    drop(aside);
     Some(desk)
 }
 

@@ -9,7 +9,7 @@ use Rattle.sw_core.specs.Step.{Step}
 use Rattle.sw_session.specs.declared.desk.Wake.TheVariants.{Again, Over}
 use Rattle.sw_session.specs.Available.{seated}
 use Rattle.sw_session.specs.CoreDesk.{DeskSeen, Carried, TellsOfPiece, CarriesOut, Keeps, PassesBy, CorePasses, brought}
-use Rattle.sw_session.specs.DeskRuns.{Exchange, IsRunTo, DeskRuns, CoreDeskRuns, asked_at, asked_in, asked_by, asked_of}
+use Rattle.sw_session.specs.DeskRuns.{Exchange, IsRunTo, CoreDeskRuns, asked_at, asked_in, asked_by, asked_of}
 use Rattle.sw_session.specs.Trace.{Entry, Asked, Waited, Polled, Noted, Leads}
 
 run-append : (p : Panel) (xs ys : List Event) → IsRun p xs → IsRun (last_of p xs) ys → IsRun p (xs ++ ys)

@@ -35,14 +35,14 @@ pub speaks-then : {E : Type 0} (v : Protocol E) (s mid s' : E) (xs ys : List Exc
 speaks-then v s mid s' [] ys after p q = subst (λ t. Speaks v t ys after s') p.1 q
 speaks-then v s mid s' (x ∷ xs) ys after (Goes, m, row, n, a, p) q = (Goes, m, row, n, a, speaks-then v m mid s' xs ys after p q)
 speaks-then v s mid s' (x ∷ xs) ys after (Ends, m, row, n, a, p) q = absurd (cc (p.1))
-speaks-then v s mid s' (x ∷ xs) ys after (Fatal, m, row, n, a, p) q = absurd (cc (p.1))
+speaks-then v s mid s' (x ∷ xs) ys after (Fatal code, m, row, n, a, p) q = absurd (cc (p.1))
 speaks-then v s mid s' (x ∷ xs) ys after (Malformed, m, row, n, a, p) q = absurd (cc (p.1))
 
 pub speaks-one : {E : Type 0} (v : Protocol E) (s s' : E) (x : Exchange) (after : AfterStep) → v.speaks s x.act x.asked x.step s'
     → x.noted ≡ availability_notes (v.session s') x.step.out → after ≡ after_step (is_refused x.act) x.step → Speaks v s (x ∷ []) after s'
 speaks-one v s s' x Goes row n a = (Goes, s', row, n, a, (refl, refl))
 speaks-one v s s' x Ends row n a = (Ends, s', row, n, a, (refl, refl, refl))
-speaks-one v s s' x Fatal row n a = (Fatal, s', row, n, a, (refl, refl, refl))
+speaks-one v s s' x (Fatal code) row n a = (Fatal code, s', row, n, a, (refl, refl, refl))
 speaks-one v s s' x Malformed row n a = (Malformed, s', row, n, a, (refl, refl, refl))
 
 -- ---- the desk
@@ -216,7 +216,7 @@ processes-err u a m b act step Fault.Write led main side cut = cut-off u a m b a
 processes-err u a m b act step Fault.NoMemory led main side cut = inl (cut-off u a m b act step Fault.NoMemory led main side cut)
 processes-err u a m b act step Fault.Read led main side cut = absurd cut.fails
 processes-err u a m b act step Fault.Wire led main side cut = absurd cut.fails
-processes-err u a m b act step Fault.Fatal led main side cut = absurd cut.fails
+processes-err u a m b act step (Fault.Fatal code) led main side cut = absurd cut.fails
 processes-err u a m b act step Fault.ReadBound led main side cut = absurd cut.fails
 
 pub processes-starved : {E D : Type 0} (u : Voice E D) (a b : Point E D) (act : Act)

@@ -90,7 +90,7 @@ loses-none (Ok x) = refl
 loses-none (Err Fault.Read) = refl
 loses-none (Err Fault.Write) = refl
 loses-none (Err Fault.Wire) = refl
-loses-none (Err Fault.Fatal) = refl
+loses-none (Err (Fault.Fatal code)) = refl
 loses-none (Err Fault.NoMemory) = tt
 loses-none (Err Fault.ReadBound) = refl
 
@@ -112,7 +112,7 @@ ends-by : {E D : Type 0} (u : Voice E D) (a b : Point E D) (r : Progress) (after
     → 0 < r.count → GoesThrough u a b r.acts after → Stands after r.pending → EndsTurn u a b r (conclude (Ok after))
 ends-by u a b r Goes some g s = (g, s, some)
 ends-by u a b r Ends some g s = inr g
-ends-by u a b r Fatal some g s = (g, λ e. absurd (cc (e)))
+ends-by u a b r (Fatal code) some g s = (g, λ e. absurd (cc (e)))
 ends-by u a b r Malformed some g s = ((g, s), λ e. absurd (cc (e)))
 
 stops-by : {E D : Type 0} (u : Voice E D) (a b : Point E D) (r : Progress) (fault : ServeFault)
@@ -121,7 +121,7 @@ stops-by u a b r Fault.Write t = (t, λ e. absurd (cc (e)))
 stops-by u a b r Fault.NoMemory t = (inl t, λ e. absurd (cc (e)))
 stops-by u a b r Fault.Read t = absurd t.breaks
 stops-by u a b r Fault.Wire t = absurd t.breaks
-stops-by u a b r Fault.Fatal t = absurd t.breaks
+stops-by u a b r (Fault.Fatal code) t = absurd t.breaks
 stops-by u a b r Fault.ReadBound t = absurd t.breaks
 
 starves-by : {E D : Type 0} (u : Voice E D) (a b : Point E D) (r : Progress) (fault : ServeFault)
@@ -131,7 +131,7 @@ starves-by u a b r fault e g w = subst (λ (f : ServeFault). EndsTurn u a b r (E
 paused-stands : (p : Pending) (after : AfterStep) → Waits p.bytes → Judges false after → Stands after p
 paused-stands p Goes waits j = waits
 paused-stands p Ends waits j = tt
-paused-stands p Fatal waits j = tt
+paused-stands p (Fatal code) waits j = tt
 paused-stands p Malformed waits j = absurd (j refl)
 
 pub judged-ok : (b : Bool) (r : Result AfterStep ServeFault) → IfOk r (λ after. Judges b after) → (after : AfterStep) → r ≡ Ok after → Judges b after
@@ -196,24 +196,24 @@ turn-bytes u p p' q a b (Err fault) (piece, some, reads, e) counts h =
 pub concluded-read : (r : Result AfterStep ServeFault) → conclude r ≡ Err Fault.Read → r ≡ Err Fault.Read
 concluded-read (Ok Goes) e = absurd (cc (e))
 concluded-read (Ok Ends) e = absurd (cc (e))
-concluded-read (Ok Fatal) e = absurd (cc (e))
+concluded-read (Ok (Fatal code)) e = absurd (cc (e))
 concluded-read (Ok Malformed) e = absurd (cc (e))
 concluded-read (Err Fault.Read) e = refl
 concluded-read (Err Fault.Write) e = absurd (cc (e))
 concluded-read (Err Fault.Wire) e = absurd (cc (e))
-concluded-read (Err Fault.Fatal) e = absurd (cc (e))
+concluded-read (Err (Fault.Fatal code)) e = absurd (cc (e))
 concluded-read (Err Fault.NoMemory) e = absurd (cc (e))
 concluded-read (Err Fault.ReadBound) e = absurd (cc (e))
 
 pub concluded-write : (r : Result AfterStep ServeFault) → conclude r ≡ Err Fault.Write → r ≡ Err Fault.Write
 concluded-write (Ok Goes) e = absurd (cc (e))
 concluded-write (Ok Ends) e = absurd (cc (e))
-concluded-write (Ok Fatal) e = absurd (cc (e))
+concluded-write (Ok (Fatal code)) e = absurd (cc (e))
 concluded-write (Ok Malformed) e = absurd (cc (e))
 concluded-write (Err Fault.Read) e = absurd (cc (e))
 concluded-write (Err Fault.Write) e = refl
 concluded-write (Err Fault.Wire) e = absurd (cc (e))
-concluded-write (Err Fault.Fatal) e = absurd (cc (e))
+concluded-write (Err (Fault.Fatal code)) e = absurd (cc (e))
 concluded-write (Err Fault.NoMemory) e = absurd (cc (e))
 concluded-write (Err Fault.ReadBound) e = absurd (cc (e))
 
@@ -223,7 +223,7 @@ each-unread u acts a b (Ok after) h e = absurd (cc (e))
 each-unread u acts a b (Err Fault.Read) h e = h.breaks
 each-unread u acts a b (Err Fault.Write) h e = absurd (cc (e))
 each-unread u acts a b (Err Fault.Wire) h e = absurd (cc (e))
-each-unread u acts a b (Err Fault.Fatal) h e = absurd (cc (e))
+each-unread u acts a b (Err (Fault.Fatal code)) h e = absurd (cc (e))
 each-unread u acts a b (Err Fault.NoMemory) h e = absurd (cc (e))
 each-unread u acts a b (Err Fault.ReadBound) h e = absurd (cc (e))
 
@@ -236,7 +236,7 @@ all-unread u p p' a b (Err Fault.Read) h e = elim h.spoken [
 ]
 all-unread u p p' a b (Err Fault.Write) h e = absurd (cc (e))
 all-unread u p p' a b (Err Fault.Wire) h e = absurd (cc (e))
-all-unread u p p' a b (Err Fault.Fatal) h e = absurd (cc (e))
+all-unread u p p' a b (Err (Fault.Fatal code)) h e = absurd (cc (e))
 all-unread u p p' a b (Err Fault.NoMemory) h e = absurd (cc (e))
 all-unread u p p' a b (Err Fault.ReadBound) h e = absurd (cc (e))
 
@@ -284,7 +284,7 @@ fails-then : {E D : Type 0} (u : Voice E D) (a b c : Point E D) (is : List Act) 
 fails-then u a b c is r turns more Fault.Read g h other = (goes-then u a b c is r.acts Goes g h.0, h.1)
 fails-then u a b c is r turns more Fault.Write g h other = stops-then u a b c is r.acts Fault.Write g h
 fails-then u a b c is r turns more Fault.Wire g h other = (goes-then u a b c is r.acts Malformed g h.0, h.1)
-fails-then u a b c is r turns more Fault.Fatal g h other = goes-then u a b c is r.acts Fatal g h
+fails-then u a b c is r turns more (Fault.Fatal code) g h other = goes-then u a b c is r.acts (Fatal code) g h
 fails-then u a b c is r turns more Fault.NoMemory g (inl h) other = inl (stops-then u a b c is r.acts Fault.NoMemory g h)
 fails-then u a b c is r turns more Fault.NoMemory g (inr h) other = inr (goes-then u a b c is r.acts Goes g h.0, h.1)
 fails-then u a b c is r turns more Fault.ReadBound g h other = absurd (other refl)

@@ -29,7 +29,7 @@ processes-is u act a b r q e h = subst (λ (x : Result AfterStep ServeFault). Pr
 pub went-on : (r : Result AfterStep ServeFault) → goes_on r ≡ true → r ≡ Ok Goes
 went-on (Ok Goes) t = refl
 went-on (Ok Ends) t = absurd (cc (t))
-went-on (Ok Fatal) t = absurd (cc (t))
+went-on (Ok (Fatal code)) t = absurd (cc (t))
 went-on (Ok Malformed) t = absurd (cc (t))
 went-on (Err fault) t = absurd (cc (t))
 
@@ -79,7 +79,7 @@ pub each-over : {E D : Type 0} (u : Voice E D) (first second : Act) (a b : Point
     → goes_on r ≡ false → Processes u first a b r → ProcessesEach u (first ∷ second ∷ []) a b r
 each-over u first second a b (Ok Goes) t h = absurd (cc (t))
 each-over u first second a b (Ok Ends) t h = ends-before u a b (first ∷ []) (second ∷ []) Ends (λ e. absurd (cc (e))) h
-each-over u first second a b (Ok Fatal) t h = ends-before u a b (first ∷ []) (second ∷ []) Fatal (λ e. absurd (cc (e))) h
+each-over u first second a b (Ok (Fatal code)) t h = ends-before u a b (first ∷ []) (second ∷ []) (Fatal code) (λ e. absurd (cc (e))) h
 each-over u first second a b (Ok Malformed) t h = ends-before u a b (first ∷ []) (second ∷ []) Malformed (λ e. absurd (cc (e))) h
 each-over u first second a b (Err fault) t h = stops-at u a b first (second ∷ []) fault h
 
@@ -109,7 +109,7 @@ takes-on p p' input r f t j =
 pub stands : (p p' : Pending) (input : Act) (after : AfterStep) → (after ≡ Goes → ⊥) → Finds p input p' → Judges (is_refused input) after → Stands after p'
 stands p p' input Goes ended f judged = absurd (ended refl)
 stands p p' input Ends ended f judged = tt
-stands p p' input Fatal ended f judged = tt
+stands p p' input (Fatal code) ended f judged = tt
 stands p p' (Takes m) Malformed ended f judged = absurd (judged refl)
 stands p p' (Skips kind) Malformed ended f judged = absurd (judged refl)
 stands p p' Refuses Malformed ended f judged = subst (λ (q : Pending). HasWrongPrologue q.bytes) (sym f.1) f.0
@@ -191,6 +191,6 @@ pub all-over : {E D : Type 0} (u : Voice E D) (p q q' : Pending) (a b c : Point 
     → IfOk r (λ after. Judges (is_refused input) after) → HearsAll u p q' a c r
 all-over u p q q' a b c input (Ok Goes) t k f h j = absurd (cc (t))
 all-over u p q q' a b c input (Ok Ends) t k f h j = all-ended u p q q' a b c input Ends (λ e. absurd (cc (e))) k f h j
-all-over u p q q' a b c input (Ok Fatal) t k f h j = all-ended u p q q' a b c input Fatal (λ e. absurd (cc (e))) k f h j
+all-over u p q q' a b c input (Ok (Fatal code)) t k f h j = all-ended u p q q' a b c input (Fatal code) (λ e. absurd (cc (e))) k f h j
 all-over u p q q' a b c input (Ok Malformed) t k f h j = all-ended u p q q' a b c input Malformed (λ e. absurd (cc (e))) k f h j
 all-over u p q q' a b c input (Err fault) t k f h j = all-stopped u p q q' a b c input fault k f h

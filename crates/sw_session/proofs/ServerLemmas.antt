@@ -1,7 +1,7 @@
 -- A server that stays the same.
 use Rattle.std.proofs.Common.{◌≡◌, ℕ, refl, sym, ap, ◌∙◌, subst, List, Result}
 use Rattle.sw_hislip.specs.Pending.{Pending}
-use Rattle.sw_session.specs.declared.engine.step.Channel.{Channel}
+use Rattle.sw_session.specs.Beginning.{BeginningSeen}
 use Rattle.sw_session.specs.declared.engine.step.Sent.{Sent}
 use Rattle.sw_session.specs.declared.servers.act.Act.{Act}
 use Rattle.sw_session.specs.declared.servers.act.AfterStep.{AfterStep}
@@ -49,11 +49,11 @@ pub turn-so : {W S D : Type 0} (passes : D → Entry → D → Type 0) (a b : Ch
 turn-so passes a b p p' c d r h k = subst (λ (u : Voice EngineStanding _). TakesServerTurn u p p' c d r) (speaks-so passes a b h) k
 
 -- what is so of a desk, a reader and two writers is so of the same by another name
-pub connected-so : {D R W S : Type 0} (own : Channel) (turns : ℕ) (passes : D → Entry → D → Type 0) (w : Wiring R W S) (before after : Connected D R W S)
+pub connected-so : {D R W S : Type 0} (start : BeginningSeen) (turns : ℕ) (passes : D → Entry → D → Type 0) (w : Wiring R W S) (before after : Connected D R W S)
     (result : Result (Unit {0}) ServeFault) (desk : D) (writer : W) (side : S) → desk ≡ after.desk → writer ≡ after.writer → side ≡ after.side
-    → ServesConnection own turns passes w before after result
-    → ServesConnection own turns passes w before (connected desk after.reader writer side) result
-connected-so own turns passes w before after result desk writer side d e f h =
-    subst (λ x. ServesConnection own turns passes w before (connected x after.reader writer side) result) (sym d)
-    (subst (λ x. ServesConnection own turns passes w before (connected after.desk after.reader x side) result) (sym e)
-    (subst (λ x. ServesConnection own turns passes w before (connected after.desk after.reader after.writer x) result) (sym f) h))
+    → ServesConnection start turns passes w before after result
+    → ServesConnection start turns passes w before (connected desk after.reader writer side) result
+connected-so start turns passes w before after result desk writer side d e f h =
+    subst (λ x. ServesConnection start turns passes w before (connected x after.reader writer side) result) (sym d)
+    (subst (λ x. ServesConnection start turns passes w before (connected after.desk after.reader x side) result) (sym e)
+    (subst (λ x. ServesConnection start turns passes w before (connected after.desk after.reader after.writer x) result) (sym f) h))

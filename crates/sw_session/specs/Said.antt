@@ -1,5 +1,6 @@
 -- What is said to one message.
-use Rattle.std.specs.Prelude.{Bool, true, false, List, [], map}
+use Rattle.std.specs.Prelude.{ℕ, Bool, true, false, List, [], Option, map, option_map}
+use Rattle.std.specs.List.{find}
 use Rattle.sw_hislip.specs.declared.kind.Kind.{Kind}
 use Rattle.sw_hislip.specs.declared.kind.Kind.TheVariants as Kinds
 use Rattle.sw_hislip.specs.declared.message.Message.{Message}
@@ -31,3 +32,7 @@ answering parts = map (λ (m : Message). record { channel = Synchronous; message
 abbrev pub is_fatal : Kind → Bool
 is_fatal Kinds.FatalError = true
 is_fatal kind = false
+
+-- the code of the first fatal error among these messages (IVI-6.1 HiSLIP, FatalError: the control code)
+abbrev pub fatal_code : List Sent → Option ℕ
+fatal_code out = option_map (λ (s : Sent). s.message.control) (find (λ (s : Sent). is_fatal s.message.kind) out)

@@ -2,7 +2,7 @@
 -- an act with what was asked and said for it.
 use Rattle.std.specs.Prelude.{◌≡◌, ◌≢◌, ℕ, ◌+◌, ◌<◌, ◌≤◌, ◌⊎◌, Bool, true, false, List, [], ◌∷◌, ◌++◌, length, map}
 use Rattle.std.specs.Prelude.{Option, None, Some, Result, Ok, Err, if◌then◌else◌}
-use Rattle.std.specs.List.{flat_map, list_any}
+use Rattle.std.specs.List.{flat_map}
 use Rattle.std.specs.Io.KnownBytes.{Appends, Consumes, IsAtEnd}
 use Rattle.sw_hislip.specs.declared.fault.WireFault.TheVariants.{TooLarge, BadPrologue}
 use Rattle.sw_hislip.specs.declared.kind.Kind.{Kind}
@@ -13,7 +13,7 @@ use Rattle.sw_core.specs.declared.ask.Sid.{Sid}
 use Rattle.sw_core.specs.declared.ask.SessionAsk.TheVariants as Ask
 use Rattle.sw_core.specs.declared.ask.SessionAnswer.{SessionAnswer}
 use Rattle.sw_session.specs.declared.engine.step.Sent.{Sent}
-use Rattle.sw_session.specs.Said.{StepSeen, is_fatal}
+use Rattle.sw_session.specs.Said.{StepSeen, fatal_code}
 use Rattle.sw_session.specs.declared.servers.act.Act.{Act}
 use Rattle.sw_session.specs.declared.servers.act.Act.TheVariants.{Takes, Skips, Refuses, Notices}
 use Rattle.sw_session.specs.declared.servers.act.AfterStep.{AfterStep}
@@ -73,24 +73,28 @@ is_refused (Takes m) = false
 is_refused (Skips kind) = false
 is_refused Notices = false
 
+-- how the channel ends by a fatal error of this code, or without one
+abbrev pub ended_by : Option ℕ → AfterStep
+ended_by None = Ends
+ended_by (Some code) = Fatal code
+
 -- how the channel continues: a wrong prologue ends it, and so does a step that says so, with a fatal error or without
 abbrev pub after_step : Bool → StepSeen → AfterStep
 after_step true step = Malformed
-after_step false step =
-    if step.ends then if list_any (λ (s : Sent). is_fatal s.message.kind) step.out then Fatal else Ends else Goes
+after_step false step = if step.ends then ended_by (fatal_code step.out) else Goes
 
 -- another act may follow
 abbrev pub goes_on : Result AfterStep ServeFault → Bool
 goes_on (Ok Goes) = true
 goes_on (Ok Ends) = false
-goes_on (Ok Fatal) = false
+goes_on (Ok (Fatal code)) = false
 goes_on (Ok Malformed) = false
 goes_on (Err fault) = false
 
 abbrev pub ProceedsAfter : {E : Type 0} → Type 0 → AfterStep → E → List Exchange → AfterStep → E → Type 0
 ProceedsAfter on Goes mid xs after s' = on
 ProceedsAfter on Ends mid xs after s' = (xs ≡ []) × (after ≡ Ends) × (s' ≡ mid)
-ProceedsAfter on Fatal mid xs after s' = (xs ≡ []) × (after ≡ Fatal) × (s' ≡ mid)
+ProceedsAfter on (Fatal code) mid xs after s' = (xs ≡ []) × (after ≡ Fatal code) × (s' ≡ mid)
 ProceedsAfter on Malformed mid xs after s' = (xs ≡ []) × (after ≡ Malformed) × (s' ≡ mid)
 
 -- an engine goes through these exchanges, and only the last may end the channel
@@ -225,7 +229,7 @@ abbrev pub Stands : AfterStep → Pending → Type 0
 Stands Goes p = Waits p.bytes
 Stands Malformed p = HasWrongPrologue p.bytes
 Stands Ends p = Unit {0}
-Stands Fatal p = Unit {0}
+Stands (Fatal code) p = Unit {0}
 
 abbrev pub HearsInputs : {E D : Type 0} → Voice E D → List Act → Pending → Point E D → Point E D
     → Result AfterStep ServeFault → Type 0
@@ -246,7 +250,7 @@ pub record HearsAll {E D : Type 0} (u : Voice E D) (p p' : Pending) (a b : Point
 abbrev pub conclude : Result AfterStep ServeFault → Result Next ServeFault
 conclude (Ok Goes) = Ok On
 conclude (Ok Ends) = Ok Over
-conclude (Ok Fatal) = Err Fault.Fatal
+conclude (Ok (Fatal code)) = Err (Fault.Fatal code)
 conclude (Ok Malformed) = Err Fault.Wire
 conclude (Err fault) = Err fault
 
@@ -288,7 +292,7 @@ abbrev pub FailsBy : {E D : Type 0} → Voice E D → Point E D → Point E D �
 FailsBy u a b so_far turns Fault.Read = GoesThrough u a b so_far.acts Goes × Waits so_far.pending.bytes
 FailsBy u a b so_far turns Fault.Write = Stops u a b so_far.acts Fault.Write
 FailsBy u a b so_far turns Fault.Wire = GoesThrough u a b so_far.acts Malformed × HasWrongPrologue so_far.pending.bytes
-FailsBy u a b so_far turns Fault.Fatal = GoesThrough u a b so_far.acts Fatal
+FailsBy u a b so_far turns (Fault.Fatal code) = GoesThrough u a b so_far.acts (Fatal code)
 FailsBy u a b so_far turns Fault.NoMemory = Stops u a b so_far.acts Fault.NoMemory
     ⊎ (GoesThrough u a b so_far.acts Goes × LacksMemory so_far.pending so_far.lost)
 FailsBy u a b so_far turns Fault.ReadBound = GoesThrough u a b so_far.acts Goes × Waits so_far.pending.bytes

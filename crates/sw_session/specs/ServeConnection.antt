@@ -1,21 +1,22 @@
 -- What a server of one channel owes: by its desk, its reader and its two writers, before it and after it.
-use Rattle.std.specs.Prelude.{◌≡◌, ℕ, ◌⊎◌, Result, Err}
-use Rattle.sw_session.specs.declared.engine.step.Channel.{Channel}
+use Rattle.std.specs.Prelude.{◌≡◌, ℕ, ◌⊎◌, List, Result, Err}
+use Rattle.std.specs.Io.KnownBytes.{prepend_known}
 use Rattle.sw_session.specs.declared.servers.fault.ServeFault.{ServeFault}
 use Rattle.sw_session.specs.declared.servers.fault.ServeFault.TheVariants as Fault
-use Rattle.sw_session.specs.declared.servers.source.Source as Source
+use Rattle.sw_session.specs.declared.servers.source.ByteSource as ByteSource
 use Rattle.sw_session.specs.declared.servers.writing.Sink as Sink
 use Rattle.sw_session.specs.Trace.{Entry}
 use Rattle.sw_session.specs.ServeRead.{IsLedTo}
 use Rattle.sw_session.specs.ServeEngine.{Station, ServesChannel}
+use Rattle.sw_session.specs.Beginning.{BeginningSeen}
 
 -- what the traits of a server's reader and its two writers say of them
 pub record Wiring (R W S : Type 0) : Type 1 where
-  pub reads : Source.Ghosts R
+  pub reads : ByteSource.Ghosts R
   pub writes : Sink.Ghosts W
   pub writes_aside : Sink.Ghosts S
 
-abbrev pub wiring : {R W S : Type 0} → Source.Ghosts R → Sink.Ghosts W → Sink.Ghosts S → Wiring R W S
+abbrev pub wiring : {R W S : Type 0} → ByteSource.Ghosts R → Sink.Ghosts W → Sink.Ghosts S → Wiring R W S
 wiring reads writes writes_aside = record { reads = reads; writes = writes; writes_aside = writes_aside }
 
 -- a server's desk, its reader and its two writers
@@ -38,10 +39,16 @@ station_of w c = record {
   side = w.writes_aside.contents c.side;
 }
 
--- The channel is served, with what the reader and the writers say of their bytes and of the reads that a time limit
--- ended. A fault of reading comes where a read failed, and one of writing where a write failed.
-pub record ServesConnection {D R W S : Type 0} (own : Channel) (turns : ℕ) (passes : D → Entry → D → Type 0)
+-- these bytes come before what the reader has left
+abbrev pub behind : {D : Type 0} → List ℕ → Station D → Station D
+behind bytes t = record t { input = prepend_known bytes t.input }
+
+-- The channel is served, from the bytes on that were heard on it before, with what the reader and the writers say of
+-- their bytes and of the reads that a time limit ended. A fault of reading comes where a read failed, and one of
+-- writing where a write failed.
+pub record ServesConnection {D R W S : Type 0} (start : BeginningSeen) (turns : ℕ) (passes : D → Entry → D → Type 0)
     (w : Wiring R W S) (before after : Connected D R W S) (result : Result (Unit {0}) ServeFault) : Type 0 where
-  pub serves : ServesChannel passes own turns (station_of w before) (station_of w after) result
+  pub serves : ServesChannel passes start.channel turns (behind start.bytes (station_of w before)) (station_of w after)
+      result
   pub read : result ≡ Err Fault.Read → IsLedTo w.reads.failed after.reader
   pub write : result ≡ Err Fault.Write → IsLedTo w.writes.failed after.writer ⊎ IsLedTo w.writes_aside.failed after.side

@@ -1,7 +1,7 @@
 -- A server of one channel, as the relations of a server see it.
 use Rattle.std.specs.Prelude.{◌≡◌, ◌⊎◌}
 use Rattle.sw_session.specs.declared.servers.channel_server.ChannelServer.{ChannelServer}
-use Rattle.sw_session.specs.declared.servers.source.Source as Source
+use Rattle.sw_session.specs.declared.servers.source.ByteSource as ByteSource
 use Rattle.sw_session.specs.declared.servers.writing.Sink as Sink
 use Rattle.sw_session.specs.Trace.{Entry}
 use Rattle.sw_session.specs.Engine.{EngineStanding}
@@ -20,8 +20,8 @@ stands writes writes_aside s =
     point s.engine.now s.desk.now (writes.contents s.writer.now) (writes_aside.contents s.side.now)
 
 -- the same beside its reader
-abbrev pub stands_by : {R W S D : Type 0} → Source.Ghosts R → Sink.Ghosts W → Sink.Ghosts S → ChannelServer W S D → R
-    → Course EngineStanding D
+abbrev pub stands_by : {R W S D : Type 0} → ByteSource.Ghosts R → Sink.Ghosts W → Sink.Ghosts S
+    → ChannelServer W S D → R → Course EngineStanding D
 stands_by reads writes writes_aside s reader =
     course (stands writes writes_aside s) (reads.remaining reader) (reads.pauses reader)
 

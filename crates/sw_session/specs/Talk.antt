@@ -18,7 +18,8 @@ use Rattle.sw_verify.specs.declared.refusal.Refusal.{Refusal}
 use Rattle.sw_verify.specs.Check.{error_of}
 use Rattle.sw_verify.specs.Setup.{readings_of}
 use Rattle.sw_verify.specs.Ready.{IsReady, IsRefusedScan}
-use Rattle.sw_core.specs.Action.{Effect, IsOfMacros, Initiates, Resets, ReadsOut, Action, AtOnce, BetweenScans, AfterScan}
+use Rattle.sw_core.specs.Action.{Effect, IsOfMacros, Initiates, Resets, ReadsOut, Action, AtOnce, BetweenScans}
+use Rattle.sw_core.specs.Action.{AfterScan}
 use Rattle.sw_core.specs.Action.{action_of}
 use Rattle.sw_core.specs.Event.{next_number}
 use Rattle.sw_core.specs.declared.ask.Sid.{Sid}

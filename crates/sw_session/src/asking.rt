@@ -59,8 +59,10 @@ pub fn reads_out(command: &Command) -> bool
     matches!(command, Command::ReadOut(_))
 }
 
-/// Carries out a command of the session's own. `answered` says whether the message has answered before.
-pub fn carry_own<D: Desk>(
+/// Carries out a command: begins a scan, reads it or not; resets; acts on macros; and asks for any other. `answered`
+/// says whether the message has answered before.
+#[inline(never)]
+pub fn carry_out<D: Desk>(
     desk: &mut D,
     sid: Sid,
     alloc: Global,
@@ -68,7 +70,6 @@ pub fn carry_own<D: Desk>(
     command: Command,
     answered: bool,
 ) -> SessionAnswer
-    requires { is_own command ≡ true }
     ensures { Led D.passes desk.old desk.new (λ t rest.
         Begins sid answered (Ok command) macros.old t (begun_with result macros.new rest)) }
 {
@@ -82,11 +83,11 @@ pub fn carry_own<D: Desk>(
             let outcome = act_on_one(alloc, macros, &ask);
             report(desk, sid, outcome)
         }
-        _ => unreachable!(),
+        command => ask(desk, sid, command, answered),
     }
 }
 
-/// Begins a scan, reads it or not, or resets: what a session carries out of the commands without data.
+/// Carries out a command without data, as `carry_out` does.
 fn carry_plain<D: Desk>(
     desk: &mut D,
     sid: Sid,
@@ -95,7 +96,6 @@ fn carry_plain<D: Desk>(
     plain: Plain,
     answered: bool,
 ) -> SessionAnswer
-    requires { is_own (Command.Plain plain) ≡ true }
     ensures { Led D.passes desk.old desk.new (λ t rest.
         Begins sid answered (Ok (Command.Plain plain)) macros.old t (begun_with result macros.new rest)) }
 {
@@ -103,8 +103,19 @@ fn carry_plain<D: Desk>(
         Plain::Initiate => initiate(desk, sid, alloc),
         Plain::Read => read(desk, sid, alloc, answered),
         Plain::Reset => reset(desk, sid, macros, answered),
-        _ => unreachable!(),
+        plain => ask(desk, sid, Command::Plain(plain), answered),
     }
+}
+
+/// Asks for a command that is not the session's own, and gives what is answered.
+fn ask<D: Desk>(desk: &mut D, sid: Sid, command: Command, answered: bool) -> SessionAnswer
+    requires { is_own command ≡ false }
+    ensures { (macros : Table) → Led D.passes desk.old desk.new (λ t rest.
+        Begins sid answered (Ok command) macros t (begun_with result macros rest)) }
+{
+    let mut answer = SessionAnswer::Stranger;
+    ask_command(desk, sid, command, answered, &mut answer);
+    answer
 }
 
 /// Answers with the outcome of a macro command, and queues its refusal.

@@ -14,7 +14,8 @@
 //!
 //! `Engine` is one of the two channels of a HiSLIP session (IVI-6.1), and its contract is what it asks and says to each
 //! message (`TakesMessage`). `serve_channel` serves a channel over any reader, two writers and any desk: it writes what
-//! the engine says to the messages in what it read, however that was cut (`ServesChannel`). A reader (`Source`) counts
+//! the engine says to the messages in what it read, however that was cut (`ServesChannel`). A reader (`ByteSource`)
+//! counts
 //! the reads that a time limit ended, where it can; then a server gives up after as many bytes and such reads as it has
 //! turns, and not before.
 //!
@@ -44,7 +45,7 @@ pub use laws::{
     work_is_kept_where_there_is_room,
 };
 pub use servers::{
-    Memory, ServeFault, Sink, Source, Unread, Unwritten, serve_async, serve_channel, serve_sync,
-    write_all,
+    Beginning, ByteSource, Memory, ServeFault, Sink, Unread, Unwritten, serve_async, serve_channel,
+    serve_sync, write_all,
 };
 pub use talker::Talker;

@@ -10,7 +10,7 @@ ghost use Rattle.sw_session.specs.Talk.{Talked, TalksLine, OnLine, Itself, Expan
 ghost use Rattle.sw_session.specs.Talk.{state, talker_at, after_unit, is_command_error, TellsAnswered, is_own};
 ghost use Rattle.sw_session.specs.Talk.{reads_out};
 
-use crate::asking::{ask_command, carry_own, is_own, queue, reads_out};
+use crate::asking::{ask_command, carry_out, is_own, queue, reads_out};
 use crate::desk::Desk;
 use crate::line::{join, make_room};
 use std::alloc::Global;
@@ -245,7 +245,6 @@ impl Talker {
     /// Serves a unit that is this command, one of the session's own.
     #[inline(never)]
     fn serve_own<D: Desk>(&mut self, desk: &mut D, command: Command, out: &mut Vec<u8>) -> AfterUnit
-        requires { is_own command ≡ true }
         ensures serves { (path : Nodes) → OnLine D.passes
             (talker_at desk.old path self.old.macros out.old.items)
             (talker_at desk.new path self.new.macros out.new.items)
@@ -253,7 +252,7 @@ impl Talker {
         ensures same { self.new.sid ≡ self.old.sid }
     {
         let answered = has_answers(out);
-        let answer = carry_own(
+        let answer = carry_out(
             desk,
             self.sid,
             self.alloc,

@@ -9,7 +9,7 @@ use Rattle.sw_workers.specs.Held.{AtDesk}
 use Rattle.sw_workers.specs.History.{event}
 use Rattle.sw_workers.specs.Shares.{is_counted, one_if}
 use Rattle.sw_session.specs.CoreDesk.{brought}
-use Rattle.sw_workers.specs.Work.{MadeAsk, Carries, Adds, Brings, SeesToWork, EndsPiece, IsSentOn, Learns, events_of, left_over}
+use Rattle.sw_workers.specs.Work.{MadeAsk, Carries, Brings, SeesToWork, EndsPiece, IsSentOn, Learns, events_of, left_over}
 
 -- what the mainframe was told
 abbrev pub made_of : {start : Panel} {ask : _} {old : AtDesk} {work : Option WorkSeen} {new : AtDesk} → Brings start ask old work new → MadeAsk

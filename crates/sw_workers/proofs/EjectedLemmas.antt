@@ -2,7 +2,7 @@
 use Rattle.std.specs.Prelude.{◌==◌, ◌&&◌, not}
 use Rattle.std.proofs.Common.{◌≡◌, ℕ, ◌+◌, ◌-◌, ◌<◌, ◌≤◌, Bool, true, false, Option, None, Some, List, [], ◌∷◌, ◌++◌, All, IfSome, sym, ap, ◌∙◌, subst, refl}
 use Rattle.std.specs.List.{AllByRecursion}
-use Rattle.std.proofs.Common.{arith, is_some, length, map, drop, slice_set, slice_index_or}
+use Rattle.std.proofs.Common.{arith, is_some, length, drop, slice_set, slice_index_or}
 use Rattle.std.specs.Prelude.{if◌then◌else◌}
 use Rattle.std.proofs.lemmas.Bool.{and_right, MatchBool-at_false}
 use Rattle.std.proofs.lemmas.List.Elements.{All-from_recursion}

@@ -1,14 +1,12 @@
 -- Every history is a run.
 use Rattle.std.proofs.Common.{◌≡◌, List, [], ◌∷◌, ◌++◌, map, refl, sym, subst}
-use Rattle.sw_verify.specs.declared.snapshot.Snapshot.{Snapshot}
-use Rattle.sw_core.specs.Ends.{last_of, BeginsScan, ScanEnds}
-use Rattle.sw_core.specs.Opening.{IsFresh, IsReached, RunsGoOn}
+use Rattle.sw_core.specs.Ends.{last_of}
+use Rattle.sw_core.specs.Opening.{IsReached, RunsGoOn}
 use Rattle.sw_core.specs.Panel.{Panel}
 use Rattle.sw_core.specs.Run.{Event, IsRun}
-use Rattle.sw_workers.specs.Board.{Said}
 use Rattle.sw_workers.specs.Entries.{HistoryEntry}
 use Rattle.sw_workers.specs.History.{IsHistory, IsEntry, event}
-use Rattle.sw_workers.specs.Laws.{said_of, said_by, IsRunFrom, EveryHistoryIsARun}
+use Rattle.sw_workers.specs.Laws.{said_of, said_by, EveryHistoryIsARun}
 
 -- the events of a history
 record Runs (start : Panel) (entries : List HistoryEntry) (panel : Panel) : Type 0 where

@@ -1,6 +1,6 @@
 -- What is held is held on while seats, locks, clears and the scan that runs stay; and when *OPC? is.
-use Rattle.std.proofs.Common.{◌≡◌, ◌==◌, ◌&&◌, ◌||◌, not, ℕ, Bool, true, false, true≢false, List, [], ◌∷◌, Option, None, Some}
-use Rattle.std.proofs.Common.{refl, ap, sym, subst, ◌∙◌, map, ◌↔◌, if◌then◌else◌}
+use Rattle.std.proofs.Common.{◌≡◌, ◌==◌, ◌&&◌, ◌||◌, not, Bool, true, false, true≢false, List, [], ◌∷◌, Option, None, Some}
+use Rattle.std.proofs.Common.{refl, ap, sym, subst, ◌∙◌, if◌then◌else◌}
 use Rattle.std.specs.Prelude.{decimal, MatchBool}
 use Rattle.sw_base.specs.declared.reading.Reading.{Reading}
 use Rattle.sw_base.specs.declared.error.ScpiError.{ScpiError}
@@ -21,8 +21,7 @@ use Rattle.sw_core.specs.Event.{last_number}
 use Rattle.sw_core.specs.Seats.{asker_of, is_dropped, is_shut_out}
 use Rattle.sw_core.specs.Sessions.{SessionsSeen, IsJoined, is_clearing}
 use Rattle.sw_core.specs.Step.{StepReadings, StepAlone, session_told, StepEffect, StepHeld, StepAction, StepJoined, is_held, drops, shuts_out}
-use Rattle.sw_core.specs.Step.{Admission, Dropped, ShutOut, Admitted, admission, StepAdmitted, StepNew, StepSession, IsEvent, IsUnnumbered, acts_unnumbered}
-use Rattle.sw_core.specs.Step.{Step}
+use Rattle.sw_core.specs.Step.{Admission, Dropped, ShutOut, Admitted, StepAdmitted, StepNew, StepSession, IsEvent, IsUnnumbered, acts_unnumbered}
 use Rattle.sw_core.specs.Seen.{AskSession, SaysSession}
 use Rattle.sw_workers.specs.History.{AwaitsEnd}
 use Rattle.sw_workers.specs.Waking.{IsKeptWaiting}

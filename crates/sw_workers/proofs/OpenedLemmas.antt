@@ -1,24 +1,24 @@
 -- A card that comes out of its slot and goes back, and what comes of doing so with slot after slot.
-use Rattle.std.specs.Prelude.{◌==◌, ◌&&◌, not, min}
+use Rattle.std.specs.Prelude.{◌==◌, ◌&&◌, not}
 use Rattle.std.proofs.Common.{◌≡◌, ◌≢◌, ℕ, ◌+◌, ◌-◌, ◌*◌, ◌<◌, ◌≤◌, ◌⊎◌, inl, inr, Bool, true, false, Option, None, Some, List, sym, ap, ◌∙◌, subst, refl}
-use Rattle.std.proofs.Common.{arith, is_some, length, map, slice_set, slice_index_or, if◌then◌else◌}
+use Rattle.std.proofs.Common.{arith, is_some, length, slice_set, if◌then◌else◌}
 use Rattle.std.proofs.lemmas.Bool.{cases_eq, cases_Bool, eqb-true, and_parts, MatchBool-at_true, MatchBool-at_false}
-use Rattle.std.proofs.lemmas.List.{map-set, length-map, length-set, set-set, set-get_or}
+use Rattle.std.proofs.lemmas.List.{map-set, length-map, set-set, set-get_or}
 use Rattle.sw_base.specs.Limits.{most_slots, most_channels}
 use Rattle.sw_base.specs.Layout.{Channel, slot_at}
 use Rattle.sw_card.specs.Account.{Account, closed_at, is_meter, at_rest}
 use Rattle.sw_cage.specs.Accounts.{Accounts, option_rest, option_closed, is_closed, all_open}
 use Rattle.sw_cage.specs.Cage.{CageSeen, safe_state}
 use Rattle.sw_cage.specs.declared.job.Ticket.{Ticket}
-use Rattle.sw_cage.specs.Install.{stopped, without_card, CanInstall, RefusesInstall, IsUnfit}
+use Rattle.sw_cage.specs.Install.{stopped, without_card, RefusesInstall, IsUnfit}
 use Rattle.sw_cage.specs.declared.refusal.InstallRefusal.{InstallRefusal}
 use Rattle.sw_cage.specs.declared.refusal.InstallRefusal.TheVariants.{Busy, Occupied, BadLayout}
 use Rattle.sw_cage.specs.declared.refusal.EjectRefusal.TheVariants.{Vacant, Out}
 use Rattle.sw_cage.proofs.SlotChangeLemmas.{slot_rest, slot_get, slot_set_same, slot_cases, all_open_closed, is_none, closed_slot, some_slot}
 use Rattle.sw_core.specs.Event.{last_number, next_number, concluded}
 use Rattle.sw_core.specs.Good.{IsGoodPanel, OptionFew}
-use Rattle.sw_core.specs.Panel.{Panel, with_cards, is_running}
-use Rattle.sw_core.specs.Seen.{AskEject, AskInstall, AnswerSeen, SaysEjected, SaysNotEjected, SaysInstalled, SaysNotInstalled, SaysWorn}
+use Rattle.sw_core.specs.Panel.{Panel, with_cards}
+use Rattle.sw_core.specs.Seen.{AskEject, AskInstall, AnswerSeen, SaysEjected, SaysNotEjected, SaysInstalled, SaysNotInstalled}
 use Rattle.sw_core.specs.Step.{Step, Acts, IsUnnumbered, IsEvent, acts_unnumbered}
 use Rattle.sw_workers.specs.Opened.{HaveChannels, Reopens, IsOpened}
 use Rattle.sw_workers.proofs.EjectedLemmas.{ejected, unnumbered, stopped_if, rest_twice}

@@ -27,7 +27,7 @@ use Rattle.sw_core.specs.declared.ask.SessionAnswer.TheVariants.{Lock, Info, Sna
 use Rattle.sw_core.specs.Run.{IsAtRest}
 use Rattle.sw_core.specs.Seen.{AskSeen, AskSession, AskInstall, AskEject, AskExternal, AskElapsed, AskFinished, AnswerSeen}
 use Rattle.sw_core.specs.Seen.{SaysSession, SaysInstalled, SaysNotInstalled, SaysEjected, SaysNotEjected, SaysTaken, SaysMissed, SaysFailed, SaysBack, SaysWorn}
-use Rattle.sw_core.specs.Step.{Acts, Happens, IsEvent, IsUnnumbered, Returns, Step, StepFinished, StepOutside, acts_unnumbered}
+use Rattle.sw_core.specs.Step.{Acts, Happens, IsEvent, IsUnnumbered, Returns, Step, StepFinished, acts_unnumbered}
 use Rattle.sw_workers.specs.Board.{Known, entry_of}
 use Rattle.sw_workers.specs.Closing.{EndsAtRest, StaysAtRest, is_unasked}
 use Rattle.sw_workers.specs.Entries.{HistoryEntry}

@@ -1,14 +1,12 @@
 -- Which sessions stay joined, and are not cleared, where one seat is another.
-use Rattle.std.proofs.Common.{◌≡◌, ◌≢◌, ◌≤◌, ◌<◌, ℕ, Bool, true, false, true≢false, List, length, Option, None, Some, is_some, inl, inr}
+use Rattle.std.proofs.Common.{◌≡◌, ◌≤◌, ◌<◌, ℕ, true, false, List, length, Option, None, Some, is_some, inl, inr}
 use Rattle.std.proofs.Common.{refl, ap, sym, subst, ◌∙◌, arith}
-use Rattle.std.proofs.lemmas.Bool.{cases_eq}
 use Rattle.sw_base.specs.Layout.{slot_at}
-use Rattle.sw_hislip.specs.LockTable.{LockTable}
 use Rattle.sw_cage.proofs.SlotChangeLemmas.{slot_cases, slot_set_other, some_slot}
 use Rattle.sw_core.specs.declared.ask.Sid.{Sid}
 use Rattle.sw_core.specs.declared.sessions.Seat.{Seat}
 use Rattle.sw_core.specs.Panel.{Panel, is_running}
-use Rattle.sw_core.specs.Seats.{lacks_second, attached, Attaches}
+use Rattle.sw_core.specs.Seats.{lacks_second, Attaches}
 use Rattle.sw_core.specs.Sessions.{SessionsSeen, IsJoined, IsLeastFree, joined_in, seat_in, seat_of, is_clearing, with_seat}
 use Rattle.sw_workers.proofs.HoldsLemmas.{Keeps}
 

@@ -1,4 +1,4 @@
--- A channel's server over a source that gives again what was read ahead.
+-- A channel's server from what was heard on.
 use Rattle.std.proofs.Common.{◌≡◌, ◌⊎◌, inl, inr, ℕ, ◌+◌, List, ◌++◌, length, Option, None, Some, Result, Ok, Err, OnOk, OnErr, option_map, ◌∙◌, refl, ap}
 use Rattle.std.proofs.Common.{subst, arith}
 use Rattle.std.specs.Io.KnownBytes.{Consumes, IsAtEnd, prepend_known}
@@ -8,10 +8,11 @@ use Rattle.sw_session.specs.declared.servers.fault.ServeFault.{ServeFault}
 use Rattle.sw_session.specs.declared.servers.fault.ServeFault.TheVariants.{Read, Write}
 use Rattle.sw_session.specs.declared.servers.source.Unread.{Unread}
 use Rattle.sw_session.specs.declared.servers.source.Unread.TheVariants.{Paused, Failed}
-use Rattle.sw_session.specs.ServeRead.{IsLedTo, CountsPause}
+use Rattle.sw_session.specs.ServeRead.{CountsPause}
 use Rattle.sw_session.specs.Trace.{Entry}
 use Rattle.sw_session.specs.ServeEngine.{Station, ServesChannel}
-use Rattle.sw_workers.specs.Connected.{Waited, Mishaps, Unheard, ConnectionSeen, beside, channel_by_header, ServesFromHeader}
+use Rattle.sw_session.specs.Beginning.{NamesChannel}
+use Rattle.sw_workers.specs.Connected.{Waited, Mishaps, ConnectionSeen, beside, Fails, ServesFromHeader}
 
 -- the same run, of an input that it consumed as well
 serves-as : {D : Type 0} (passes : D → Entry → D → Type 0) (own : Channel) (turns : ℕ) (before after : Station D)
@@ -66,37 +67,39 @@ waited_on None mid new (Err Paused) w c = record { reads = w.reads + 1; counts =
 waited_on (Some o) mid new (Err Paused) w c =
     record { reads = w.reads + 1; counts = c ∙ ap (option_map (λ m. m + 1)) w.counts ∙ ap Some (omega (arith)) }
 
-pub connects : {D : Type 0} (passes : D → Entry → D → Type 0) (m : Mishaps) (turns : ℕ) (before after : ConnectionSeen D) (rest again : Option (List ℕ))
-    (pauses : Option ℕ) (result : Result (Unit {0}) ServeFault) (header : List ℕ) (own : Channel)
-    → own ≡ channel_by_header header → Consumes before.input rest header
-    → (length header ≡ 16) ⊎ IsAtEnd rest ⊎ m.unheard rest pauses → Waited before.pauses pauses → again ≡ prepend_known header rest
+pub connects : {D : Type 0} (passes : D → Entry → D → Type 0) (m : Mishaps) (turns : ℕ) (before after : ConnectionSeen D) (rest : Option (List ℕ))
+    (pauses : Option ℕ) (result : Result (Unit {0}) ServeFault) (header bytes : List ℕ) (channel own : Channel)
+    → NamesChannel header channel → own ≡ channel → bytes ≡ header → Consumes before.input rest header
+    → (length header ≡ 16) ⊎ IsAtEnd rest ⊎ m.unheard rest pauses → Waited before.pauses pauses
     → ((side : Option (List ℕ)) × (side' : Option (List ℕ))
-    × ServesChannel passes own turns (beside side (record before { input = again; pauses = pauses })) (beside side' after) result)
+    × ServesChannel passes channel turns (beside side (record before { input = prepend_known bytes rest; pauses = pauses })) (beside side' after) result)
     → (result ≡ Err Read → m.unread) → (result ≡ Err Write → m.unwritten ⊎ ((own ≡ Synchronous) × m.refused))
     → ServesFromHeader passes m turns before after result
-connects passes m turns before after rest again pauses result header own is begins whole waited same serves read write = record {
+connects passes m turns before after rest pauses result header bytes channel own names is same begins whole waited serves read write = record {
   header = header;
   rest = rest;
   begins = begins;
   whole = whole;
   pauses = pauses;
   waited = waited;
+  channel = channel;
+  names = names;
   side = serves.0;
   side' = serves.1;
-  serves = subst (λ (channel : Channel). ServesChannel passes channel turns (beside serves.0 (record before { pauses = pauses })) (beside serves.1 after)
-      result) is
-      (serves-as passes own turns (beside serves.0 (record before { input = again; pauses = pauses })) (beside serves.1 after) before.input result
+  serves = serves-as passes channel turns (beside serves.0 (record before { input = prepend_known bytes rest; pauses = pauses })) (beside serves.1 after)
+      before.input result
       (λ bs q. consumed-again before.input rest after.input header bs begins
-      (subst (λ (a : Option (List ℕ)). Consumes a after.input bs) same q)) serves.2);
+      (subst (λ (front : List ℕ). Consumes (prepend_known front rest) after.input bs) same q)) serves.2;
   read = read;
-  write = subst (λ (channel : Channel). result ≡ Err Write → m.unwritten ⊎ ((channel ≡ Synchronous) × m.refused)) is write;
+  write = subst (λ (c : Channel). result ≡ Err Write → m.unwritten ⊎ ((c ≡ Synchronous) × m.refused)) is write;
 }
 
 -- a write of the first channel failed, or what it left to the second one was refused
-pub failed-or-refused : {W S R : Type 0} (failed : W → W → Type 0) (writer : W) → IsLedTo failed writer ⊎ (S × R) → IsLedTo failed writer ⊎ R
-failed-or-refused failed writer (inl c) = inl c
-failed-or-refused failed writer (inr c) = inr c.1
+pub of_first : {U S R : Type 0} → U ⊎ Fails (λ (old new : S). R) → U ⊎ ((Synchronous ≡ Synchronous) × R)
+of_first (inl u) = inl u
+of_first (inr f) = inr (refl, f.2)
 
-pub of-first : {U R : Type 0} → U ⊎ R → U ⊎ ((Synchronous ≡ Synchronous) × R)
-of-first (inl u) = inl u
-of-first (inr r) = inr (refl, r)
+-- a write of the second channel failed: it leaves nothing to the first one
+pub of_second : {U S R : Type 0} → U ⊎ Fails (λ (old new : S). ⊥) → U ⊎ R
+of_second (inl u) = inl u
+of_second (inr f) = absurd f.2

@@ -1,6 +1,5 @@
 -- A wait that is closing is so since the end has begun.
 use Rattle.std.proofs.Common.{◌≡◌, ◌==◌, ℕ, Bool, true, false, refl, if◌then◌else◌}
-use Rattle.sw_workers.specs.declared.shared.Woken.{Woken}
 use Rattle.sw_workers.specs.declared.shared.Woken.TheVariants.{Turned, Unchanged, Closing}
 use Rattle.sw_workers.specs.Waits.{outcome_of}
 

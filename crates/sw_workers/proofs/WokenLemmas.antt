@@ -1,5 +1,5 @@
 -- Whoever may go on is woken: a step that takes no turn ends nothing that holds an ask.
-use Rattle.std.proofs.Common.{◌≡◌, ◌==◌, ◌+◌, ◌≤◌, ◌&&◌, ◌||◌, not, ℕ, Bool, true, false, true≢false, List, Option, None, Some, is_some, is_none}
+use Rattle.std.proofs.Common.{◌≡◌, ◌==◌, ◌+◌, ◌≤◌, ◌&&◌, ◌||◌, not, ℕ, Bool, true, false, true≢false, List, Option, None, Some, is_some}
 use Rattle.std.proofs.Common.{refl, ap, sym, subst, ◌∙◌, arith, ◌↔◌, if◌then◌else◌, inl, inr, Result, Ok, Err}
 use Rattle.std.specs.Prelude.{MatchBool}
 use Rattle.std.proofs.lemmas.Bool.Decides.{nat_tests}
@@ -8,7 +8,7 @@ use Rattle.sw_base.specs.declared.error.ScpiError.TheVariants.{OutOfMemory, Sett
 use Rattle.sw_card.specs.declared.board.CardFault.{CardFault}
 use Rattle.sw_base.specs.declared.reading.Reading.{Reading}
 use Rattle.sw_lex.specs.declared.command.Command.{Command}
-use Rattle.sw_hislip.specs.LockTable.{LockTable, admits, excludes, shares, without_exclusive, with_key, freed, released}
+use Rattle.sw_hislip.specs.LockTable.{LockTable, admits, excludes, shares, without_exclusive, with_key}
 use Rattle.sw_hislip.specs.declared.locks.Released.TheVariants as Freed
 use Rattle.sw_verify.specs.declared.snapshot.Snapshot.{Snapshot}
 use Rattle.sw_cage.specs.Cage.{ScanSeen, CageSeen}
@@ -24,21 +24,20 @@ use Rattle.sw_core.specs.declared.ask.SessionAnswer.{SessionAnswer}
 use Rattle.sw_core.specs.declared.ask.SessionAnswer.TheVariants as answers
 use Rattle.sw_core.specs.declared.ask.SessionAnswer.TheVariants.{Joined, Full, Stranger, Broken, Done, Missed, Max, Lock, Info, Refused, Hold, Worn}
 use Rattle.sw_core.specs.Panel.{Panel, is_running}
-use Rattle.sw_core.specs.Action.{action_of}
 use Rattle.sw_core.specs.Event.{concluded, session_concluded, last_number}
 use Rattle.sw_core.specs.Seats.{asker_of, is_shut_out, StepSeat, StepLock, Locks, released_code}
 use Rattle.sw_core.specs.Sessions.{SessionsSeen, IsJoined, seat_of}
-use Rattle.sw_core.specs.Step.{Happens, StepHappens, StepSnapshot, StepStart, IsServed, StepJoined, drops, shuts_out, StepAdmitted}
-use Rattle.sw_core.specs.Step.{StepJoin, StepAttach, StepSession, outside_told, StepOutside, Returns, StepFinished, Acts, acts_unnumbered}
+use Rattle.sw_core.specs.Step.{Happens, StepSnapshot, StepStart, IsServed, StepJoined, drops, shuts_out, StepAdmitted}
+use Rattle.sw_core.specs.Step.{StepJoin, StepAttach, StepSession, outside_told, Returns, StepFinished, Acts, acts_unnumbered}
 use Rattle.sw_core.specs.Step.{IsEvent, IsUnnumbered, Step}
 use Rattle.sw_core.specs.Seen.{WorkSeen, AskSeen, AskSession, AskInstall, AskEject, AskExternal, AskElapsed, AskFinished, AnswerSeen, SaysSession}
 use Rattle.sw_core.specs.Seen.{SaysInstalled, SaysNotInstalled, SaysEjected, SaysNotEjected, SaysTaken, SaysMissed, SaysFailed, SaysBack, SaysWorn}
 use Rattle.sw_workers.specs.declared.waking.Concern.{Concern}
-use Rattle.sw_workers.specs.declared.waking.Concern.TheVariants.{Nobody, Seats, ScanBy, Scan}
+use Rattle.sw_workers.specs.declared.waking.Concern.TheVariants.{Nobody, ScanBy, Scan}
 use Rattle.sw_workers.specs.History.{AwaitsEnd}
 use Rattle.sw_workers.specs.Shares.{is_session_event, is_event, is_counted, one_if}
 use Rattle.sw_workers.specs.Waking.{may_end, concern_of, changes_seats, may_be_over, wakes, next_turn, turn_after, TellsScan, HoldsOn, WhoMayGoOnIsWoken}
-use Rattle.sw_workers.proofs.CommandedLemmas.{Leaves, leaves_none, leaves_unit, happens_seats}
+use Rattle.sw_workers.proofs.CommandedLemmas.{Leaves, leaves_unit, happens_seats}
 use Rattle.sw_workers.proofs.CountedLemmas.{step_counted}
 use Rattle.sw_workers.proofs.HoldsLemmas.{Keeps, keeps_seats, held_again, by_tests, opc, awaits, awaits_from}
 use Rattle.sw_workers.proofs.SeatedLemmas.{keeps_tables, seat_placed, keeps_seat, keeps_joined, keeps_attached}

@@ -1,5 +1,5 @@
 -- The end of a mainframe.
-use Rattle.std.specs.Prelude.{◌≡◌, ℕ, ◌+◌, Bool, true, false, List, [], ◌∷◌, ◌++◌}
+use Rattle.std.specs.Prelude.{◌≡◌, ℕ, Bool, true, false, List, [], ◌∷◌, ◌++◌}
 use Rattle.sw_base.specs.Limits.{most_slots}
 use Rattle.sw_card.specs.Account.{Account, closed_at}
 use Rattle.sw_cage.specs.Accounts.{Accounts, all_open}
@@ -20,7 +20,8 @@ abbrev pub is_unasked : AskSeen → Bool
 is_unasked (AskSession ask) = false
 is_unasked ask = true
 
--- These entries lead from p to q, and no session asked any of them. At p, at q and between no scan runs, and no relay is
+-- These entries lead from p to q, and no session asked any of them. At p, at q and between no scan runs, and no relay
+-- is
 -- closed.
 abbrev pub StaysAtRest : Panel → List HistoryEntry → Panel → Type 0
 StaysAtRest p [] q = (q ≡ p) × IsAtRest p

@@ -1,23 +1,25 @@
 -- How a connection is served.
-use Rattle.std.specs.Prelude.{◌≡◌, ◌==◌, ◌&&◌, ◌⊎◌, ℕ, List, ◌∷◌, length, Option, Result, Err, if◌then◌else◌}
+use Rattle.std.specs.Prelude.{◌≡◌, ◌⊎◌, ℕ, List, length, Option, Result, Err}
 use Rattle.std.specs.Io.KnownBytes.{Consumes, IsAtEnd}
-use Rattle.sw_hislip.specs.declared.kind.Kind.TheVariants.{AsyncInitialize}
-use Rattle.sw_hislip.specs.Kinds.{kind_number}
 use Rattle.sw_session.specs.declared.engine.step.Channel.{Channel}
-use Rattle.sw_session.specs.declared.engine.step.Channel.TheVariants.{Synchronous, Asynchronous}
+use Rattle.sw_session.specs.declared.engine.step.Channel.TheVariants.{Synchronous}
 use Rattle.sw_session.specs.declared.servers.fault.ServeFault.{ServeFault}
 use Rattle.sw_session.specs.declared.servers.fault.ServeFault.TheVariants.{Read, Write, NoMemory}
-use Rattle.sw_session.specs.declared.servers.source.Source as Source
+use Rattle.sw_session.specs.declared.servers.source.ByteSource as ByteSource
 use Rattle.sw_session.specs.declared.servers.writing.Sink as Sink
 use Rattle.sw_session.specs.ServeRead.{IsLedTo, PausesBy}
 use Rattle.sw_session.specs.Trace.{Entry}
 use Rattle.sw_session.specs.ServeEngine.{Station, ServesChannel}
+use Rattle.sw_session.specs.Beginning.{NamesChannel}
 
--- the channel that begins so: the second one with `HS` and the kind AsyncInitialize, any other is the first one
-abbrev pub channel_by_header : List ℕ → Channel
-channel_by_header (h ∷ s ∷ kind ∷ rest) =
-    if (h == 72) && (s == 83) && (kind == kind_number AsyncInitialize) then Asynchronous else Synchronous
-channel_by_header bytes = Synchronous
+-- what the thread of a connection reads from: its reader, and the second way to the client
+pub record ReadingSeen (R A : Type 0) : Type 0 where
+  pub reader : R
+  pub aside : A
+
+-- such a step was made, between some states
+abbrev pub Fails : {S : Type 0} → (S → S → Type 0) → Type 0
+Fails step = (old : _) × (new : _) × step old new
 
 -- What failed on a connection: a read failed in its first header, with this left to be read, and with this many reads
 -- ended by a time limit; a read failed later; a write failed; what was left to the session's other thread was refused.
@@ -28,7 +30,8 @@ pub record Mishaps : Type 1 where
   pub refused : Type 0
 
 -- a read failed that led to such a reader
-pub record Unheard {R : Type 0} (reads : Source.Ghosts R) (rest : Option (List ℕ)) (pauses : Option ℕ) : Type 0 where
+pub record Unheard {R : Type 0} (reads : ByteSource.Ghosts R) (rest : Option (List ℕ)) (pauses : Option ℕ)
+    : Type 0 where
   pub reader : R
   pub failed : IsLedTo reads.failed reader
   pub rest_is : rest ≡ reads.remaining reader
@@ -36,7 +39,7 @@ pub record Unheard {R : Type 0} (reads : Source.Ghosts R) (rest : Option (List �
 
 -- What the reader, the writer and the second way to the client say of that, as the run leaves them: a failed read led
 -- to this reader, a failed write to this writer. The second way is written to before a read, which then fails with it.
-abbrev pub mishaps : {R W S : Type 0} → Source.Ghosts R → Sink.Ghosts W → Sink.Ghosts S → (refused : Type 0)
+abbrev pub mishaps : {R W S : Type 0} → ByteSource.Ghosts R → Sink.Ghosts W → Sink.Ghosts S → (refused : Type 0)
     → (reader : R) → (writer : W) → (aside : S) → Mishaps
 mishaps reads writes writes_aside refused reader writer aside = record {
   unheard = Unheard reads;
@@ -77,12 +80,14 @@ pub record ServesFromHeader {D : Type 0} (passes : D → Entry → D → Type 0)
   pub pauses : Option ℕ
   pub whole : (length header ≡ 16) ⊎ IsAtEnd rest ⊎ m.unheard rest pauses
   pub waited : Waited before.pauses pauses
+  pub channel : Channel
+  pub names : NamesChannel header channel
   pub side : Option (List ℕ)
   pub side' : Option (List ℕ)
-  pub serves : ServesChannel passes (channel_by_header header) turns (beside side (record before { pauses = pauses }))
-      (beside side' after) result
+  pub serves : ServesChannel passes channel turns (beside side (record before { pauses = pauses })) (beside side' after)
+      result
   pub read : result ≡ Err Read → m.unread
-  pub write : result ≡ Err Write → m.unwritten ⊎ ((channel_by_header header ≡ Synchronous) × m.refused)
+  pub write : result ≡ Err Write → m.unwritten ⊎ ((channel ≡ Synchronous) × m.refused)
 
 -- There was no memory to begin, or no room for one more connection, and nothing was read, asked or written; or the
 -- connection is served.

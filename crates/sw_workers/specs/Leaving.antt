@@ -1,5 +1,5 @@
 -- What the thread of a session's second connection does once that connection has ended.
-use Rattle.std.specs.Prelude.{ℕ, nat_lt, Bool, true, false, if◌then◌else◌}
+use Rattle.std.specs.Prelude.{ℕ, nat_lt, Bool, if◌then◌else◌}
 use Rattle.sw_workers.specs.declared.leaving.AfterEnd.{AfterEnd}
 use Rattle.sw_workers.specs.declared.leaving.AfterEnd.TheVariants.{Leaves, Awaits, Stops}
 
@@ -16,4 +16,6 @@ unread_time = 1000
 -- left.
 abbrev pub after_end : (has_ended : Bool) → (unread waited : ℕ) → AfterEnd
 after_end has_ended unread waited =
-    if nat_lt unread unread_time then (if has_ended then Awaits else (if nat_lt waited drain_time then Awaits else Stops)) else Leaves
+    if nat_lt unread unread_time
+    then (if has_ended then Awaits else (if nat_lt waited drain_time then Awaits else Stops))
+    else Leaves

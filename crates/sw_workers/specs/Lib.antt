@@ -7,7 +7,6 @@ pub mod Said
 pub mod Shares
 pub mod Work
 pub mod Closing
-pub mod Ahead
 pub mod Connected
 pub mod Opened
 pub mod Outboxes

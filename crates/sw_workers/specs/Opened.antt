@@ -65,7 +65,8 @@ pub record AddsSlots (p : Panel) (entries : List HistoryEntry) (slots : ℕ) (q 
   pub cards : AreOfCards entries
 
 -- the history grew by these entries, which are of one slot
-pub record AddsSlot (p : Panel) (old : List HistoryEntry) (slot : ℕ) (q : Panel) (new : List HistoryEntry) : Type 0 where
+pub record AddsSlot (p : Panel) (old : List HistoryEntry) (slot : ℕ) (q : Panel) (new : List HistoryEntry)
+    : Type 0 where
   pub entries : List HistoryEntry
   pub grown : new ≡ old ++ entries
   pub leads : IsHistory p entries q

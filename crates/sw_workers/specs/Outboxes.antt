@@ -1,5 +1,6 @@
 -- What one thread of a session leaves to the other.
-use Rattle.std.specs.Prelude.{◌≡◌, ◌==◌, ◌+◌, ◌<◌, ℕ, nat_lt, nat_le, Bool, true, false, List, [], ◌++◌, length, Option, None}
+use Rattle.std.specs.Prelude.{◌≡◌, ◌==◌, ◌+◌, ◌<◌, ℕ, nat_lt, nat_le, Bool, true, false, List, [], ◌++◌, length, Option}
+use Rattle.std.specs.Prelude.{None}
 use Rattle.std.specs.Prelude.{Some, Result, Ok, Err, if◌then◌else◌}
 use Rattle.sw_workers.specs.declared.outboxes.Refused.{Refused}
 use Rattle.sw_workers.specs.declared.outboxes.Refused.TheVariants.{Full, NoMemory}

@@ -4,14 +4,14 @@ use crate::line::Line;
 use std::alloc::Global;
 use std::io;
 use std::net::TcpStream;
-use sw_session::{Sink, Source};
+use sw_session::{ByteSource, Sink};
 
 /// A connection of one channel of a session: what it reads from, what it writes to, and a second way to the same
 /// client. By that way it writes a message that another thread left between two of its own.
 pub trait Connection {
     ghost use Rattle.std.specs.Prelude.{◌≡◌, ℕ, List, Option, OnErr};
 
-    type In: Source + Drop;
+    type In: ByteSource + Drop;
 
     type Out: Sink + Drop;
 
@@ -40,17 +40,20 @@ pub trait Connection {
         ensures bytes { Self.In.remaining reader.new ≡ Self.In.remaining reader.old }
         ensures pauses { Self.In.pauses reader.new ≡ Self.In.pauses reader.old }
         ensures failed { OnErr result (Self.In.failed reader.old reader.new) };
+
+    /// The connection has joined as the session with this number. It is told so once, before the next read.
+    fn joined(_reader: &Self::In, _session: u8) {}
 }
 
 /// A connection of any reader and two writers. Its reads have no limit.
 #[derive(Drop)]
-pub struct Wired<I: Source + Drop, O: Sink + Drop, A: Sink + Drop> {
+pub struct Wired<I: ByteSource + Drop, O: Sink + Drop, A: Sink + Drop> {
     pub reader: I,
     pub writer: O,
     pub aside: A,
 }
 
-impl<I: Source + Drop, O: Sink + Drop, A: Sink + Drop> Connection for Wired<I, O, A> {
+impl<I: ByteSource + Drop, O: Sink + Drop, A: Sink + Drop> Connection for Wired<I, O, A> {
     type In = I;
 
     type Out = O;

@@ -6,7 +6,8 @@ ghost use Rattle.sw_session.specs.CoreDesk.{TellsOfPiece, piece_seen};
 ghost use Rattle.sw_session.specs.Trace.{LeavesOf};
 ghost use Rattle.sw_workers.specs.Opened.{OpensAll};
 ghost use Rattle.sw_workers.specs.Waits.{MayRest, limit_after, number_after, is_leave, serving_after, told_left};
-ghost use Rattle.sw_workers.specs.Work.{AsksOnce, Brings, SeesToWork, EndsPiece, Deserts, desk_seen, IsRested, Works, none_own};
+ghost use Rattle.sw_workers.specs.Work.{AsksOnce, Brings, SeesToWork, EndsPiece, Deserts, desk_seen, IsRested, Works};
+ghost use Rattle.sw_workers.specs.Work.{none_own};
 ghost use Rattle.sw_workers.specs.declared.desk.Rest.TheVariants.{Deserted};
 
 use crate::event_kind::{BySession, EventKind, FromOutside};

@@ -1,4 +1,5 @@
-//! The two kinds of events: those for which a session asks, and those from outside. One step under the lock serves both.
+//! The two kinds of events: those for which a session asks, and those from outside. One step under the lock serves
+//! both.
 
 use crate::note::AskKind;
 use crate::waking::{Concern, may_end};

@@ -1,6 +1,7 @@
 //! What is behind the lock: the mainframe and its history, the count of its events, and the notes of the last ones.
 
-ghost use Rattle.std.specs.Prelude.{◌≡◌, ◌==◌, ◌+◌, ◌<◌, ◌&&◌, ◌↔◌, ℕ, [], ◌∷◌, ◌++◌, not, IfOk, IfSome, IfNone, None, Some, true};
+ghost use Rattle.std.specs.Prelude.{◌≡◌, ◌==◌, ◌+◌, ◌<◌, ◌&&◌, ◌↔◌, ℕ, [], ◌∷◌, ◌++◌, not, IfOk, IfSome, IfNone, None};
+ghost use Rattle.std.specs.Prelude.{Some, true};
 ghost use mathlib.Core.List.{IsPrefix};
 ghost use Rattle.circular_buffer.specs.Buffer.{buffer, keep_last};
 ghost use Rattle.sw_core.specs.Opening.{IsFresh, IsReached};

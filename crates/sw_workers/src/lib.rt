@@ -24,14 +24,13 @@
 //! slot, each as it was there at the end of the history, but with nothing closed.
 //!
 //! `run_session` serves one connection of a HiSLIP session by such a desk, as the channel that its first header names.
-//! `serve_sync` and `serve_async` promise what it asks and writes for what it reads (`RunsSession`). What the first
+//! `serve_channel` promises what it asks and writes for what it reads (`RunsSession`). What the first
 //! channel's thread says on the second one waits in the session's slot, under a lock of its own, until the other thread
 //! writes it. The next session of that number never finds it (`Waiting::open`).
 //!
 //! No contract says when or whether a thread continues, nor how late a status is that a seat reads.
 #![tactic(auto)]
 
-mod ahead;
 mod available;
 mod board;
 mod closing;
@@ -51,6 +50,7 @@ mod opening_relays;
 mod outboxes;
 mod pauses;
 mod porch;
+mod reading;
 mod recorded;
 mod seat;
 mod session;
@@ -59,11 +59,9 @@ mod slots;
 mod telling;
 mod tried;
 mod waking;
-mod watched;
 mod work_channels;
 mod workers;
 
-pub use ahead::ReadAhead;
 pub use board::{BlankBoard, BoardName, StatusBoard};
 pub use closing::{Closed, close_down};
 pub use connection::{Connection, Tcp, Wired};

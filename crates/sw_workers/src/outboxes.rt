@@ -50,7 +50,8 @@ impl Outbox for Brand {
     ghost use Rattle.sw_workers.specs.Outboxes.{InSlot, Refuses};
     ghost use Rattle.sw_workers.specs.declared.outboxes.Refused.{Refused};
 
-    ghost refused = { (slot : InSlot) × (joined : ℕ) × (bytes : List ℕ) × (why : Refused) × Refuses slot joined bytes why };
+    ghost refused = { (slot : InSlot) × (joined : ℕ) × (bytes : List ℕ) × (why : Refused)
+        × Refuses slot joined bytes why };
 
     fn append(waiting: &mut Waiting, joined: u64, bytes: &[u8]) -> Result<(), Refused> {
         waiting.append(joined, bytes)

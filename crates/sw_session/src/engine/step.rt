@@ -1,10 +1,9 @@
 //! What an engine says to one message, and on which connection.
 
 ghost use Rattle.std.specs.Prelude.{◌≡◌, ◌≤◌, ◌++◌, [], true, false, vec_capacity};
-ghost use Rattle.std.specs.List.{list_any};
 ghost use Rattle.sw_session.specs.EngineStep.{reply_step};
 ghost use Rattle.sw_session.specs.InParts.{GivesFirst};
-ghost use Rattle.sw_session.specs.Said.{answering, is_fatal};
+ghost use Rattle.sw_session.specs.Said.{answering, is_fatal, fatal_code};
 ghost use Rattle.sw_session.specs.declared.engine.step.Sent.{Sent};
 
 use crate::engine::answers::Parts;
@@ -79,14 +78,15 @@ impl Step {
         matches!(self.rest, Rest::End)
     }
 
-    /// Whether any of the messages is a fatal error, where the channel ends.
-    pub fn has_fatal(&self) -> bool
+    /// The code of the first fatal error among the messages, where the channel ends.
+    pub fn fatal_code(&self) -> Option<u8>
         requires { self.now.ends ≡ true }
-        ensures { result ≡ list_any (λ (s : Sent). is_fatal s.message.kind) self.now.out }
+        ensures { result ≡ fatal_code self.now.out }
     {
         let said = self.said.as_slice();
         said.iter()
-            .any(|sent| matches!(sent.message.kind, Kind::FatalError))
+            .find(|sent| matches!(sent.message.kind, Kind::FatalError))
+            .map(|sent| sent.message.control)
     }
 
     /// The next message. Only want of memory for a part of an answer is refused.

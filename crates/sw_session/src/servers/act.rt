@@ -26,8 +26,8 @@ pub enum AfterStep {
     Goes,
     /// It is over.
     Ends,
-    /// A fatal error was sent.
-    Fatal,
+    /// A fatal error with this code was sent.
+    Fatal(u8),
     /// A fatal error was sent, of a wrong prologue.
     Malformed,
 }
@@ -57,9 +57,8 @@ pub fn after_step(is_refused: bool, step: &Step) -> AfterStep
     if !step.ends() {
         return AfterStep::Goes;
     }
-    if step.has_fatal() {
-        AfterStep::Fatal
-    } else {
-        AfterStep::Ends
+    match step.fatal_code() {
+        Some(code) => AfterStep::Fatal(code),
+        None => AfterStep::Ends,
     }
 }

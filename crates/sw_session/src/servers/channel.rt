@@ -2,40 +2,45 @@
 
 ghost use Rattle.std.specs.Prelude.{◌≡◌};
 ghost use Rattle.sw_session.specs.Engine.{session_of};
+ghost use Rattle.sw_session.specs.Beginning.{nothing_heard};
 ghost use Rattle.sw_session.specs.Serve.{LeavesSession};
 ghost use Rattle.sw_session.specs.Server.{StaysServer};
 ghost use Rattle.sw_session.specs.ServeConnection.{ServesConnection, connected, wiring};
 
 use crate::desk::Desk;
 use crate::engine::{Channel, Engine};
+use crate::servers::beginning::Beginning;
 use crate::servers::channel_server::ChannelServer;
 use crate::servers::fault::ServeFault;
 use crate::servers::rooms::Rooms;
-use crate::servers::source::Source;
+use crate::servers::source::ByteSource;
 use crate::servers::writing::Sink;
 use std::alloc::Global;
 use sw_core::SessionAsk;
-use sw_hislip::Decoder;
 
-/// Serves one channel of a session over its connection (IVI-6.1 HiSLIP, synchronized mode): reads until the end of
-/// input, the end of the session or a fault, for at most `turns` reads, and leaves the session then. What is said on
+/// Serves one channel of a session over its connection (IVI-6.1 HiSLIP, synchronized mode), from the bytes on that were
+/// heard on it: reads until the end of input, the end of the session or a fault, for at most `turns` reads, and leaves
+/// the session then. What is said on
 /// the other channel goes to the side writer. The asynchronous channel sends service requests before each message, and
 /// where a time limit ended a read.
-pub fn serve_channel<R: Source, W: Sink, S: Sink, D: Desk>(
+pub fn serve_channel<R: ByteSource, W: Sink, S: Sink, D: Desk>(
     alloc: Global,
-    channel: Channel,
+    beginning: Beginning,
     reader: &mut R,
     writer: &mut W,
     side: &mut S,
     desk: &mut D,
     turns: u64,
 ) -> Result<(), ServeFault>
-    ensures { ServesConnection channel turns D.passes (wiring R.Source W.Sink S.Sink)
+    ensures { ServesConnection beginning turns D.passes (wiring R.ByteSource W.Sink S.Sink)
         (connected desk.old reader.old writer.old side.old) (connected desk.new reader.new writer.new side.new)
         result }
 {
+    let Beginning {
+        channel,
+        mut decoder,
+    } = beginning;
     let mut engine = Engine::new(alloc, channel);
-    let mut decoder = Decoder::new(alloc);
     let mut rooms = Rooms::new(alloc);
     let mut server = ChannelServer {
         alloc,
@@ -56,7 +61,7 @@ pub fn serve_channel<R: Source, W: Sink, S: Sink, D: Desk>(
 }
 
 /// `serve_channel` of the synchronous channel.
-pub fn serve_sync<R: Source, W: Sink, S: Sink, D: Desk>(
+pub fn serve_sync<R: ByteSource, W: Sink, S: Sink, D: Desk>(
     alloc: Global,
     reader: &mut R,
     writer: &mut W,
@@ -64,13 +69,13 @@ pub fn serve_sync<R: Source, W: Sink, S: Sink, D: Desk>(
     desk: &mut D,
     turns: u64,
 ) -> Result<(), ServeFault>
-    ensures { ServesConnection Channel.Synchronous turns D.passes (wiring R.Source W.Sink S.Sink)
+    ensures { ServesConnection (nothing_heard Channel.Synchronous) turns D.passes (wiring R.ByteSource W.Sink S.Sink)
         (connected desk.old reader.old writer.old side.old) (connected desk.new reader.new writer.new side.new)
         result }
 {
     serve_channel(
         alloc,
-        Channel::Synchronous,
+        Beginning::of(alloc, Channel::Synchronous),
         reader,
         writer,
         side,
@@ -80,7 +85,7 @@ pub fn serve_sync<R: Source, W: Sink, S: Sink, D: Desk>(
 }
 
 /// `serve_channel` of the asynchronous channel.
-pub fn serve_async<R: Source, W: Sink, S: Sink, D: Desk>(
+pub fn serve_async<R: ByteSource, W: Sink, S: Sink, D: Desk>(
     alloc: Global,
     reader: &mut R,
     writer: &mut W,
@@ -88,13 +93,13 @@ pub fn serve_async<R: Source, W: Sink, S: Sink, D: Desk>(
     desk: &mut D,
     turns: u64,
 ) -> Result<(), ServeFault>
-    ensures { ServesConnection Channel.Asynchronous turns D.passes (wiring R.Source W.Sink S.Sink)
+    ensures { ServesConnection (nothing_heard Channel.Asynchronous) turns D.passes (wiring R.ByteSource W.Sink S.Sink)
         (connected desk.old reader.old writer.old side.old) (connected desk.new reader.new writer.new side.new)
         result }
 {
     serve_channel(
         alloc,
-        Channel::Asynchronous,
+        Beginning::of(alloc, Channel::Asynchronous),
         reader,
         writer,
         side,

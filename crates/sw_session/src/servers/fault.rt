@@ -9,8 +9,8 @@ pub enum ServeFault {
     Write,
     /// A header doesn't begin with `HS`.
     Wire,
-    /// A FatalError was sent.
-    Fatal,
+    /// A FatalError with this code was sent.
+    Fatal(u8),
     NoMemory,
     /// The server has taken all its turns.
     ReadBound,

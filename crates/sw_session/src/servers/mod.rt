@@ -1,6 +1,7 @@
 //! Servers of one channel over any reader, writers and desk.
 
 mod act;
+mod beginning;
 mod channel;
 mod channel_server;
 mod fault;
@@ -12,7 +13,8 @@ mod speaking;
 mod turns;
 mod writing;
 
+pub use beginning::Beginning;
 pub use channel::{serve_async, serve_channel, serve_sync};
 pub use fault::ServeFault;
-pub use source::{Memory, Source, Unread};
+pub use source::{ByteSource, Memory, Unread};
 pub use writing::{Sink, Unwritten, write_all};

@@ -19,7 +19,7 @@ pub enum Unread {
 }
 
 /// What a server reads from. Every reader is one.
-pub trait Source {
+pub trait ByteSource {
     ghost use Rattle.std.specs.Prelude.{◌≡◌, ℕ, List, Option, Err};
     ghost use Rattle.std.specs.Io.{ReadsAtMost};
     ghost use Rattle.std.specs.Io.KnownBytes.{ReadConsumes};
@@ -44,7 +44,7 @@ pub trait Source {
 
 /// Any reader is a source: an error of kind `TimedOut` or `WouldBlock` is the end of a time limit, and an interrupted
 /// read is repeated. It doesn't say why a read fails, nor how many of them a time limit ended.
-impl<R: Read> Source for R {
+impl<R: Read> ByteSource for R {
     ghost remaining = { λ r. R.remaining r };
 
     ghost pauses = { λ _. None };
@@ -92,7 +92,7 @@ pub struct Memory<'a> {
     pub left: &'a [u8],
 }
 
-impl Source for Memory<'_> {
+impl ByteSource for Memory<'_> {
     ghost remaining = { λ m. Some m.left.now };
 
     ghost pauses = { λ _. Some 0 };

@@ -1,10 +1,11 @@
 //! One channel over a reader, two writers and a desk.
 
-ghost use Rattle.std.specs.Prelude.{◌≡◌, Ok, Err};
+ghost use Rattle.std.specs.Prelude.{◌≡◌, ◌<◌, ℕ, List, Option, length, Ok, Err};
+ghost use Rattle.std.specs.Io.KnownBytes.{prepend_known};
 ghost use Rattle.sw_hislip.specs.Pending.{Waits, nothing_fed};
 ghost use Rattle.sw_session.specs.ServeRead.{IsLedTo};
 ghost use Rattle.sw_session.specs.Serve.{Listens, CountsReceived, NextInput, HearsAll, TakesServerTurn, RunsChannel};
-ghost use Rattle.sw_session.specs.Serve.{conclude};
+ghost use Rattle.sw_session.specs.Serve.{conclude, course};
 ghost use Rattle.sw_session.specs.Server.{voice_of, stands, stands_by, StaysServer, WriteFails};
 
 use crate::desk::Desk;
@@ -12,7 +13,7 @@ use crate::servers::act::{Act, AfterStep, goes_on};
 use crate::servers::channel_server::ChannelServer;
 use crate::servers::fault::ServeFault;
 use crate::servers::rooms::Rooms;
-use crate::servers::source::{Source, Unread};
+use crate::servers::source::{ByteSource, Unread};
 use crate::servers::writing::Sink;
 use std::alloc::Global;
 use sw_hislip::{Decoder, WireFault, every_message_comes_out, nothing_whole_is_left};
@@ -34,7 +35,7 @@ pub enum Next {
 }
 
 /// One read. Its bytes are fed.
-fn listen<R: Source>(
+fn listen<R: ByteSource>(
     reader: &mut R,
     rooms: &mut Rooms,
     decoder: &mut Decoder,
@@ -69,7 +70,7 @@ fn conclude(processed: Result<AfterStep, ServeFault>) -> Result<Next, ServeFault
     match processed {
         Ok(AfterStep::Goes) => Ok(Next::On),
         Ok(AfterStep::Ends) => Ok(Next::Over),
-        Ok(AfterStep::Fatal) => Err(ServeFault::Fatal),
+        Ok(AfterStep::Fatal(code)) => Err(ServeFault::Fatal(code)),
         Ok(AfterStep::Malformed) => Err(ServeFault::Wire),
         Err(fault) => Err(fault),
     }
@@ -114,11 +115,11 @@ impl<W: Sink, S: Sink, D: Desk> ChannelServer<'_, '_, '_, '_, W, S, D> {
     }
 
     /// One read, and what is gone through for it.
-    fn take_turn<R: Source>(&mut self, reader: &mut R) -> Result<Next, ServeFault>
+    fn take_turn<R: ByteSource>(&mut self, reader: &mut R) -> Result<Next, ServeFault>
         requires { Waits self.old.decoder.now.pending.bytes }
         ensures turn { TakesServerTurn (voice_of D.passes self.old) self.old.decoder.now.pending
-            self.new.decoder.now.pending (stands_by R.Source W.Sink S.Sink self.old reader.old)
-            (stands_by R.Source W.Sink S.Sink self.new reader.new) result }
+            self.new.decoder.now.pending (stands_by R.ByteSource W.Sink S.Sink self.old reader.old)
+            (stands_by R.ByteSource W.Sink S.Sink self.new reader.new) result }
         ensures read { result ≡ Err ServeFault.Read → IsLedTo R.failed reader.new }
         ensures write { result ≡ Err ServeFault.Write → WriteFails W.Sink S.Sink self.new }
         ensures stays { StaysServer self.old self.new }
@@ -131,23 +132,42 @@ impl<W: Sink, S: Sink, D: Desk> ChannelServer<'_, '_, '_, '_, W, S, D> {
         }
     }
 
-    /// Takes at most `turns` turns, from the first byte on.
-    pub fn run<R: Source>(&mut self, reader: &mut R, turns: u64) -> Result<(), ServeFault>
-        requires { self.old.decoder.now.pending ≡ nothing_fed }
+    /// Carries out what was heard before this server began, as if it were read now.
+    fn take_heard(&mut self) -> Result<Next, ServeFault>
+        requires fresh { self.old.decoder.now.pending.skip ≡ 0 }
+        requires some { 0 < length self.old.decoder.now.pending.bytes }
+        ensures turn { (input : Option (List ℕ)) → (pauses : Option ℕ)
+            → TakesServerTurn (voice_of D.passes self.old) nothing_fed self.new.decoder.now.pending
+            (course (stands W.Sink S.Sink self.old) (prepend_known self.old.decoder.now.pending.bytes input) pauses)
+            (course (stands W.Sink S.Sink self.new) input pauses) result }
+        ensures read { result ≡ Err ServeFault.Read → ⊥ }
+        ensures write { result ≡ Err ServeFault.Write → WriteFails W.Sink S.Sink self.new }
+        ensures stays { StaysServer self.old self.new }
+    {
+        conclude(self.process_all())
+    }
+
+    /// Takes at most `turns` turns, from the bytes on that were heard before.
+    pub fn run<R: ByteSource>(&mut self, reader: &mut R, turns: u64) -> Result<(), ServeFault>
+        requires { self.old.decoder.now.pending.skip ≡ 0 }
         ensures runs { RunsChannel (voice_of D.passes self.old) turns
-            (stands_by R.Source W.Sink S.Sink self.old reader.old)
-            (stands_by R.Source W.Sink S.Sink self.new reader.new) result }
+            (course (stands W.Sink S.Sink self.old)
+            (prepend_known self.old.decoder.now.pending.bytes (R.remaining reader.old)) (R.pauses reader.old))
+            (stands_by R.ByteSource W.Sink S.Sink self.new reader.new) result }
         ensures read { result ≡ Err ServeFault.Read → IsLedTo R.failed reader.new }
         ensures write { result ≡ Err ServeFault.Write → WriteFails W.Sink S.Sink self.new }
         ensures stays { StaysServer self.old self.new }
     {
         every_message_comes_out();
         nothing_whole_is_left();
+        if self.decoder.room() > 0 {
+            if let Next::Over = self.take_heard()? {
+                return Ok(());
+            }
+        }
         for _turn in 0..turns {
-            match self.take_turn(reader) {
-                Ok(Next::On) => {}
-                Ok(Next::Over) => return Ok(()),
-                Err(fault) => return Err(fault),
+            if let Next::Over = self.take_turn(reader)? {
+                return Ok(());
             }
         }
         Err(ServeFault::ReadBound)

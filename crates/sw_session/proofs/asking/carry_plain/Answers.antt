@@ -8,3 +8,6 @@ returns-in-Initiate g c =
 pub returns-in-Read : goal.returns-in-Read
 returns-in-Read g c =
     rw c.in-Read.is (begins-read g.D.Desk.passes c.args.sid _ _ c.args.answered c.read.result c.args.macros.now c.read.ensures)
+
+pub returns-in_default : goal.returns-in_default
+returns-in_default g c = c.ask.ensures c.args.macros.now

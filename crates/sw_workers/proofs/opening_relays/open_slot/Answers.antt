@@ -1,9 +1,8 @@
-use Rattle.std.proofs.Common.{sym, ap, subst, ◌∙◌}
-use Rattle.sw_core.specs.Panel.{Panel}
+use Rattle.std.proofs.Common.{subst}
 use Rattle.sw_core.specs.declared.ask.Answer.{Answer}
-use Rattle.sw_core.specs.Seen.{AskEject, AskInstall, AnswerSeen, SaysEjected, answer_seen, failed_in}
+use Rattle.sw_core.specs.Seen.{AskEject, AskInstall, SaysEjected, answer_seen, failed_in}
 use Rattle.sw_workers.proofs.AbortedLemmas.{slot_out, slot_back}
-use Rattle.sw_workers.proofs.EjectedLemmas.{ejected, not_ejected}
+use Rattle.sw_workers.proofs.EjectedLemmas.{not_ejected}
 use Rattle.sw_workers.proofs.OpenedLemmas.{OutOf, step_out, step_in, reopens, reopens_none}
 use Rattle.sw_workers.proofs.opening_relays.open_slot.Goals as goal
 

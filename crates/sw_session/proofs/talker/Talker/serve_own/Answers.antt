@@ -7,7 +7,7 @@ returns-clause-serves g c = λ path answers written.
     let s = c.conclude-after.ensures path c.args.self.now.macros answers written in (
       s.0,
       s.1,
-      serve-unit g.D.Desk.passes _ _ _ c.args.self.now.sid (Ok c.args.command) _ path c.args.self.now.macros c.carry_own-answer.new.macros answers
-          c.carry_own-answer.result _ s.0
-          (c.has_answers-answered.ensures answers (c.deref.ensures.value ∙ written)) c.carry_own-answer.ensures s.2,
+      serve-unit g.D.Desk.passes _ _ _ c.args.self.now.sid (Ok c.args.command) _ path c.args.self.now.macros c.carry_out-answer.new.macros answers
+          c.carry_out-answer.result _ s.0
+          (c.has_answers-answered.ensures answers (c.deref.ensures.value ∙ written)) c.carry_out-answer.ensures s.2,
     )

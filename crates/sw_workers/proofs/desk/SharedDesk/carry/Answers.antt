@@ -1,5 +1,5 @@
 use Rattle.std.specs.Prelude.{None}
-use Rattle.sw_workers.proofs.CarriesLemmas.{carries-start, carries-sent, sent-none}
+use Rattle.sw_workers.proofs.CarriesLemmas.{carries-start, carries-sent}
 use Rattle.sw_workers.proofs.desk.SharedDesk.carry.Goals as goal
 
 pub returns-in-None : goal.returns-in-None

@@ -1,4 +1,4 @@
-use Rattle.std.proofs.Common.{rules, ◌≡◌, true, ap, sym, subst, ◌∙◌}
+use Rattle.std.proofs.Common.{rules, ◌≡◌, true, subst}
 use Rattle.sw_workers.specs.Closing.{EndsAtRest}
 use Rattle.sw_workers.specs.Held.{Locked}
 use Rattle.sw_workers.proofs.shared.Shared.close_down.Goals as goal

@@ -4,7 +4,7 @@ use Rattle.sw_core.specs.Action.{action_of}
 use Rattle.sw_session.specs.Macros.{ActsOnMacros}
 use Rattle.sw_session.specs.Talk.{effect_of}
 use Rattle.sw_session.proofs.BeginsLemmas.{begins-reported}
-use Rattle.sw_session.proofs.asking.carry_own.Goals as goal
+use Rattle.sw_session.proofs.asking.carry_out.Goals as goal
 
 pub returns-in-Macros : goal.returns-in-Macros
 returns-in-Macros g c =
@@ -26,3 +26,6 @@ returns-in-Macro g c =
 
 pub returns-in-Plain : goal.returns-in-Plain
 returns-in-Plain g c = rw c.in-Plain.is c.carry_plain.ensures
+
+pub returns-in_default : goal.returns-in_default
+returns-in_default g c = c.ask.ensures c.args.macros.now
