@@ -9,10 +9,11 @@ ghost use Rattle.mainframe.specs.Run.{takes_program};
 
 use crate::fault::RunFault;
 use std::alloc::Global;
+use sw_base::Boxed;
 use sw_card::{Meter, Relay};
 use sw_code::{Code, ListError, ListFault, explain_fault, read_listing};
 use sw_core::{SessionAnswer, SessionAsk, Sid};
-use sw_lex::{BoxedProgram, Command, Setting};
+use sw_lex::{Command, Setting};
 use sw_session::{CoreDesk, Desk};
 use sw_verify::{ProgramFault, ScanProgram};
 
@@ -39,7 +40,7 @@ const NOT_RUNNABLE: &str =
     nothing is awaited";
 
 /// The program that a text lists, or why there is none, as `check` prints it.
-pub fn program_of(alloc: Global, text: &[u8]) -> Result<BoxedProgram, LoadFault>
+pub fn program_of(alloc: Global, text: &[u8]) -> Result<Boxed<ScanProgram>, LoadFault>
     ensures { IfOk result (λ p. (code_in text.now ≡ Ok p) × IsRunnable p) }
 {
     match read_listing(alloc, text) {
@@ -62,11 +63,11 @@ fn unlisted(alloc: Global, text: &[u8], error: ListError) -> LoadFault {
 }
 
 /// The program of a code, or that it can run nowhere.
-fn judged(alloc: Global, code: Code) -> Result<BoxedProgram, LoadFault>
+fn judged(alloc: Global, code: Code) -> Result<Boxed<ScanProgram>, LoadFault>
     ensures { IfOk result (λ p. (p ≡ code) × IsRunnable code) }
 {
     match ScanProgram::judge(alloc, code) {
-        Ok(program) => match BoxedProgram::new(alloc, program) {
+        Ok(program) => match Boxed::new(alloc, program) {
             Ok(boxed) => Ok(boxed),
             Err(_) => Err(LoadFault::Run(RunFault::Memory)),
         },
@@ -94,7 +95,7 @@ fn said(alloc: Global, line: u32, name: &str, cause: Option<String>) -> LoadFaul
 pub fn load<R: Relay, M: Meter>(
     desk: &mut CoreDesk<R, M>,
     sid: Sid,
-    program: BoxedProgram,
+    program: Boxed<ScanProgram>,
 ) -> Result<(), RunFault>
     ensures asked { OnOk result (CorePasses desk.old (takes_program program sid) desk.new) }
     ensures on { OnOk result (desk.new.panel.settings

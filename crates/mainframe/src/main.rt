@@ -53,10 +53,10 @@ use std::sync::Wait;
 use std::thread::Threads;
 use std::time::Clock;
 use std::{fs, io};
+use sw_base::Boxed;
 use sw_card::{Meter, Relay};
-use sw_lex::BoxedProgram;
 use sw_serve::{Door, SlotCard};
-use sw_verify::Layout;
+use sw_verify::{Layout, ScanProgram};
 use whole::read_whole;
 
 fn main(rt: HostRuntime) -> ExitCode {
@@ -116,7 +116,7 @@ fn answer_with_program(rt: &HostRuntime, fuse: Option<u32>, path: &str) -> ExitC
 }
 
 /// The scan program that a file lists.
-fn program_in(rt: &HostRuntime, path: &str) -> Result<BoxedProgram, LoadFault> {
+fn program_in(rt: &HostRuntime, path: &str) -> Result<Boxed<ScanProgram>, LoadFault> {
     let Ok(mut file) = fs::open(rt, path) else {
         return Err(LoadFault::File);
     };

@@ -18,11 +18,12 @@ use crate::reading::{LineSource, read_line};
 use crate::writing::{gather, write_out};
 use std::alloc::Global;
 use std::io::{BufRead, Write};
+use sw_base::Boxed;
 use sw_card::{Meter, Relay};
 use sw_core::{Sid, every_run_is_good};
-use sw_lex::BoxedProgram;
 use sw_serve::{SlotCard, desk_for_one};
 use sw_session::{CoreDesk, TURNS, Talker};
+use sw_verify::ScanProgram;
 
 /// Answers each line of the reader as a program message, by the program's cards: a multiplexer of 20 channels in group
 /// 1, a matrix of 16, a multiplexer of 10 in group 1 and a meter. `fuse` says which closing of slot 1 fails, from 1.
@@ -48,7 +49,7 @@ pub fn run_program_lines<Rd: BufRead, W: Write>(
     reader: &mut Rd,
     writer: &mut W,
     fuse: Option<u32>,
-    program: BoxedProgram,
+    program: Boxed<ScanProgram>,
 ) -> Result<(), RunFault>
     ensures { IfSome (Rd.remaining reader.old) (λ input. Runs (asked_first (Some program)) program_cards result input
         (Rd.remaining reader.new) (W.contents writer.old) (W.contents writer.new)) }
@@ -62,7 +63,7 @@ fn run_cards<Rd: BufRead, W: Write>(
     reader: &mut Rd,
     writer: &mut W,
     fuse: Option<u32>,
-    program: Option<BoxedProgram>,
+    program: Option<Boxed<ScanProgram>>,
 ) -> Result<(), RunFault>
     ensures { IfSome (Rd.remaining reader.old) (λ input. Runs (asked_first program) program_cards result input
         (Rd.remaining reader.new) (W.contents writer.old) (W.contents writer.new)) }
@@ -97,7 +98,7 @@ fn run_with<R: Relay, M: Meter, S: LineSource<W>, W: Write>(
     source: &mut S,
     writer: &mut W,
     cards: Vec<SlotCard<R, M>>,
-    program: Option<BoxedProgram>,
+    program: Option<Boxed<ScanProgram>>,
 ) -> Result<(), RunFault>
     ensures { IfSome (S.remaining source.old) (λ input. Runs (asked_first program) (cards_seen
         (relay_seen R.the_serial R.failed R.groups R.closed)
@@ -121,7 +122,7 @@ fn run_from<R: Relay, M: Meter, S: LineSource<W>, W: Write>(
     writer: &mut W,
     desk: &mut CoreDesk<R, M>,
     sid: Sid,
-    program: Option<BoxedProgram>,
+    program: Option<Boxed<ScanProgram>>,
 ) -> Result<(), RunFault>
     ensures { IfSome (S.remaining source.old) (λ input. RunsFrom sid (asked_first program sid) desk.old result input
         (S.remaining source.new) (W.contents writer.old) (W.contents writer.new)) }
@@ -134,7 +135,7 @@ fn run_from<R: Relay, M: Meter, S: LineSource<W>, W: Write>(
 fn begin<R: Relay, M: Meter>(
     desk: &mut CoreDesk<R, M>,
     sid: Sid,
-    program: Option<BoxedProgram>,
+    program: Option<Boxed<ScanProgram>>,
 ) -> Result<(), RunFault>
     ensures asked { OnOk result (Leads CorePasses desk.old (asked_first program sid) desk.new) }
     ensures memory { IfErr result (λ fault. fault ≡ RunFault.Memory) }

@@ -4,13 +4,11 @@
 use std::alloc::Global;
 use std::process::Abort;
 use std::test::Fail;
-use sw_base::{ArmLayer, Chan, LayerName, Sequence, Source};
+use sw_base::{ArmLayer, Boxed, Chan, LayerName, Sequence, Source};
 use sw_channel::read_positions;
 use sw_code::{Code, print_listing, read_listing};
 use sw_trigger::Settings;
-use sw_verify::{
-    BoxedSnapshot, Layout, Loaded, Plan, Refusal, Setup, Slot, Snapshot, check, verify,
-};
+use sw_verify::{Layout, Loaded, Plan, Refusal, Setup, Slot, Snapshot, check, verify};
 
 /// Twice ARM layer 1 by the bus, three times ARM layer 2 by a timer with a delay, four times ARM layer 3 by the
 /// external trigger, and three passes round two positions, each by TRIGger's timer with a delay.
@@ -141,7 +139,7 @@ fn judged(
 /// Whether a plan of the scan has the listing's code.
 fn plans(rt: &impl Abort, alloc: Global) -> Result<(), Fail> {
     let scan = snapshot(alloc, b"(@1!1&1601,9!2)", &[Chan::new(16, 2)])?;
-    let plan = Plan::make(alloc, BoxedSnapshot::new(alloc, scan)?)?;
+    let plan = Plan::make(alloc, Boxed::new(alloc, scan)?)?;
     let is_printed = is_printed(alloc, plan.code(), LISTING);
     drop(plan);
     assert!(rt; is_printed?);

@@ -4,11 +4,11 @@
 use std::alloc::Global;
 use std::process::Abort;
 use std::test::Fail;
-use sw_base::{ARMS, Chan, LayerName, ScpiError, Sequence, Source};
+use sw_base::{ARMS, Boxed, Chan, LayerName, ScpiError, Sequence, Source};
 use sw_channel::Position;
 use sw_code::{Code, print_listing, read_listing};
 use sw_trigger::Settings;
-use sw_verify::{BoxedSnapshot, Layout, Loaded, Plan, Setup, Slot, Snapshot, verify};
+use sw_verify::{Layout, Loaded, Plan, Setup, Slot, Snapshot, verify};
 
 /// 99 channels of no group in slot 16, and a meter in slot 4.
 fn cage(alloc: Global) -> Result<Layout, Fail> {
@@ -84,7 +84,7 @@ fn planned(alloc: Global, settings: Settings) -> Result<Plan, Fail> {
         layout: cage(alloc)?,
         closed: Sequence::new(Vec::new(alloc)),
     };
-    Ok(Plan::make(alloc, BoxedSnapshot::new(alloc, snapshot)?)?)
+    Ok(Plan::make(alloc, Boxed::new(alloc, snapshot)?)?)
 }
 
 /// How many things the code awaits, and how many readings it makes, once it was printed and read.

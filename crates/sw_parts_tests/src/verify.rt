@@ -4,10 +4,10 @@ use crate::positions::one_each;
 use std::alloc::Global;
 use std::process::Abort;
 use std::test::Fail;
-use sw_base::{ArmLayer, Chan, LayerName, ScpiError, Sequence, Source};
+use sw_base::{ArmLayer, Boxed, Chan, LayerName, ScpiError, Sequence, Source};
 use sw_channel::{Position, read_positions};
 use sw_trigger::Settings;
-use sw_verify::{BoxedSnapshot, Layout, Loaded, Plan, Refusal, Setup, Slot, Snapshot, check, laws};
+use sw_verify::{Layout, Loaded, Plan, Refusal, Setup, Slot, Snapshot, check, laws};
 
 /// Twenty channels of group 1 in slot 1, sixteen of none in slot 2, ten of group 1 in slot 3, and a meter in slot 4.
 fn cage(alloc: Global) -> Result<Layout, Fail> {
@@ -208,7 +208,7 @@ fn obey(plan: &Plan) {
 #[test]
 fn plan_keeps_its_snapshot(rt: HostRuntime) -> Result<(), Fail> {
     let scan = snapshot(rt.alloc(), &[Chan::new(1, 1)], &[Chan::new(2, 16)])?;
-    let plan = Plan::make(rt.alloc(), BoxedSnapshot::new(rt.alloc(), scan)?)?;
+    let plan = Plan::make(rt.alloc(), Boxed::new(rt.alloc(), scan)?)?;
     assert_eq!(rt; plan.code().meter(), 4);
     assert_eq!(rt; plan.code().steps().len(), 12);
     obey(&plan);

@@ -5,7 +5,9 @@ use crate::clients::bench;
 use std::alloc::Global;
 use std::io::{self, Read};
 use sw_core::{SessionAnswer, SessionAsk, Sid};
-use sw_session::{Channel, Desk, ServeFault, Sink, Source, TURNS, View, Wake, serve_channel};
+use sw_session::{
+    Beginning, ByteSource, Channel, Desk, ServeFault, Sink, TURNS, View, Wake, serve_channel,
+};
 
 /// A desk that gives each session its second connection as it begins, where it is to, and counts how often one left.
 #[derive(Drop)]
@@ -265,7 +267,7 @@ pub struct Ended {
 }
 
 /// Serves a connection; the second one is that of a session that is joined before.
-pub fn serve_into<R: Source, W: Sink, D: Desk>(
+pub fn serve_into<R: ByteSource, W: Sink, D: Desk>(
     alloc: Global,
     channel: Channel,
     reader: &mut R,
@@ -276,7 +278,8 @@ pub fn serve_into<R: Source, W: Sink, D: Desk>(
     if channel == Channel::Asynchronous {
         drop(desk.ask(SessionAsk::Join));
     }
-    let result = serve_channel(alloc, channel, reader, main, &mut side, desk, TURNS);
+    let beginning = Beginning::of(alloc, channel);
+    let result = serve_channel(alloc, beginning, reader, main, &mut side, desk, TURNS);
     Ended {
         result,
         side,

@@ -104,7 +104,7 @@ fn a_wrong_prologue_is_fatal(rt: HostRuntime) {
 
 /// Whether no session begins by a first message of this type.
 fn begins_not_by(alloc: Global, kind: u8) -> bool {
-    begins_not(alloc, fails(plain(kind), 3), ServeFault::Fatal)
+    begins_not(alloc, fails(plain(kind), 3), ServeFault::Fatal(3))
 }
 
 #[test]
@@ -117,7 +117,7 @@ fn another_first_message_is_fatal(rt: HostRuntime) {
 /// Whether no session begins by this sub-address.
 fn begins_not_at(alloc: Global, sub_address: &[u8]) -> bool {
     let it = line(INITIALIZE, 0, 0x0100_5858, sub_address);
-    begins_not(alloc, fails(it, 3), ServeFault::Fatal)
+    begins_not(alloc, fails(it, 3), ServeFault::Fatal(3))
 }
 
 /// Whether no session begins by this byte, at any place of a sub-address.
@@ -147,7 +147,7 @@ fn begins_once(alloc: Global, kind: u8, parameter: u32, payload: &[u8]) -> bool 
         bids(b"*CLS"),
         fails(line(kind, 0, parameter, payload), 3),
     ];
-    ends_by(alloc, &rows, ServeFault::Fatal)
+    ends_by(alloc, &rows, ServeFault::Fatal(3))
 }
 
 #[test]
@@ -167,7 +167,7 @@ fn needs_second(alloc: Global, kind: u8) -> bool {
         attaches: false,
         joins: BEGUN,
         rows: &rows,
-        end: Err(ServeFault::Fatal),
+        end: Err(ServeFault::Fatal(2)),
     };
     holds(alloc, stream)
 }
@@ -421,7 +421,7 @@ fn sees_differences(alloc: Global) -> bool {
     holds_within(alloc, &rows)
         && !holds_within(alloc, &others)
         && !holds(alloc, first(BEGUN + 1, &rows, Ok(())))
-        && !ends_by(alloc, &rows, ServeFault::Fatal)
+        && !ends_by(alloc, &rows, ServeFault::Fatal(3))
 }
 
 #[test]

@@ -121,7 +121,7 @@ fn a_wrong_prologue_is_fatal(rt: HostRuntime) {
 /// Whether no session has this number.
 fn is_stranger(alloc: Global, number: u32) -> bool {
     let sent = line(ASYNC_INITIALIZE, 0, number, b"");
-    begins_not(alloc, fails(sent, 3), ServeFault::Fatal)
+    begins_not(alloc, fails(sent, 3), ServeFault::Fatal(3))
 }
 
 #[test]
@@ -133,7 +133,7 @@ fn a_number_of_no_session_is_fatal(rt: HostRuntime) {
 
 /// Whether it begins by no message of this type.
 fn begins_not_by(alloc: Global, kind: u8) -> bool {
-    begins_not(alloc, fails(plain(kind), 3), ServeFault::Fatal)
+    begins_not(alloc, fails(plain(kind), 3), ServeFault::Fatal(3))
 }
 
 #[test]
@@ -150,7 +150,7 @@ fn another_first_message_is_fatal(rt: HostRuntime) {
 fn begins_once(alloc: Global, kind: u8, parameter: u32) -> bool {
     let again = fails(line(kind, 0, parameter, b""), 3);
     let rows = [begins(), shows_nothing(), again];
-    ends_by(alloc, &rows, ServeFault::Fatal)
+    ends_by(alloc, &rows, ServeFault::Fatal(3))
 }
 
 #[test]

@@ -6,7 +6,7 @@ use std::alloc::Global;
 use std::test::Fail;
 use sw_core::{SessionAnswer, SessionAsk, Sid};
 use sw_hislip::Kind;
-use sw_session::{Channel, Desk, TURNS, View, Wake, serve_channel};
+use sw_session::{Beginning, Channel, Desk, TURNS, View, Wake, serve_channel};
 
 /// Whether an answer is the identity in parts of `part` bytes.
 fn is_cut(said: &Said, part: usize) -> bool {
@@ -256,7 +256,7 @@ fn ends_late<D: Desk>(alloc: Global, desk: &mut Succeeded<D>, sent: &[u8]) -> bo
     let mut side: Vec<u8> = Vec::new(alloc);
     let result = serve_channel(
         alloc,
-        Channel::Asynchronous,
+        Beginning::of(alloc, Channel::Asynchronous),
         &mut reader,
         &mut main,
         &mut side,

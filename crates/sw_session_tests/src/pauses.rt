@@ -3,7 +3,7 @@
 use crate::servers::{Pieces, SECOND, SECOND_SAID, SECOND_SAID_MORE, is_served, serve};
 use std::alloc::Global;
 use std::io::{ErrorKind, Read};
-use sw_session::{Channel, ServeFault, Source, Unread};
+use sw_session::{ByteSource, Channel, ServeFault, Unread};
 
 /// Time limits end its first `limits` reads, which it counts; then its bytes come.
 #[derive(Drop)]
@@ -13,7 +13,7 @@ struct Late<'a> {
     left: &'a [u8],
 }
 
-impl Source for Late<'_> {
+impl ByteSource for Late<'_> {
     ghost use Rattle.std.specs.Prelude.{Some};
 
     ghost remaining = { λ s. Some s.left.now };

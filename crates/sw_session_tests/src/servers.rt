@@ -4,7 +4,9 @@ use std::alloc::Global;
 use std::io::{self, ErrorKind, Read, Write};
 use sw_base::Sequence;
 use sw_core::{AnswerText, SessionAnswer, SessionAsk, Sid};
-use sw_session::{Channel, Desk, Memory, ServeFault, Source, TURNS, View, Wake, serve_channel};
+use sw_session::{
+    Beginning, ByteSource, Channel, Desk, Memory, ServeFault, TURNS, View, Wake, serve_channel,
+};
 
 /// A desk with one session. Its client takes messages of 27 bytes. It answers each command with its identity, and with
 /// each look at its status there was one more service request.
@@ -211,12 +213,18 @@ pub struct Served {
     leaves: u32,
 }
 
-pub fn serve<R: Source>(alloc: Global, channel: Channel, reader: &mut R, turns: u64) -> Served {
+pub fn serve<R: ByteSource>(alloc: Global, channel: Channel, reader: &mut R, turns: u64) -> Served {
     let mut main = Vec::new(alloc);
     let mut side = Vec::new(alloc);
     let mut desk = Station::new(alloc);
     let result = serve_channel(
-        alloc, channel, reader, &mut main, &mut side, &mut desk, turns,
+        alloc,
+        Beginning::of(alloc, channel),
+        reader,
+        &mut main,
+        &mut side,
+        &mut desk,
+        turns,
     );
     let (notes, leaves) = (desk.notes, desk.leaves);
     drop(desk);
@@ -346,7 +354,7 @@ fn stops_writing(alloc: Global, room: usize) -> bool {
     let mut desk = Station::new(alloc);
     let result = serve_channel(
         alloc,
-        Channel::Synchronous,
+        Beginning::of(alloc, Channel::Synchronous),
         &mut reader,
         &mut main,
         &mut side,
@@ -386,7 +394,7 @@ fn stops_beside(alloc: Global, room: usize) -> bool {
     let mut desk = Station::new(alloc);
     let result = serve_channel(
         alloc,
-        Channel::Synchronous,
+        Beginning::of(alloc, Channel::Synchronous),
         &mut reader,
         &mut main,
         &mut side,
@@ -442,7 +450,7 @@ fn serves_second(alloc: Global) -> bool {
     let mut desk = Station::new(alloc);
     let result = serve_channel(
         alloc,
-        Channel::Asynchronous,
+        Beginning::of(alloc, Channel::Asynchronous),
         &mut reader,
         &mut main,
         &mut side,
@@ -474,7 +482,7 @@ fn faults_are_answered_and_told(rt: HostRuntime) {
     let wire = b"HX\x00\x00\x00\x00\x00\x00\x00\x00\x00\x00\x00\x00\x00\x00HS";
     assert!(rt; both_end(rt.alloc(), wire, POORLY_FORMED, Err(ServeFault::Wire)));
     let fatal = b"HS\x07\x00\x00\x00\x00\x00\x00\x00\x00\x00\x00\x00\x00\x00HS";
-    assert!(rt; both_end(rt.alloc(), fatal, WRONGLY_BEGUN, Err(ServeFault::Fatal)));
+    assert!(rt; both_end(rt.alloc(), fatal, WRONGLY_BEGUN, Err(ServeFault::Fatal(3))));
     let large = b"HS\x06\x00\x00\x00\x00\x00\x00\x00\x00\x00\x00\x01\x00\x01skipped";
     assert!(rt; both_end(rt.alloc(), large, TOO_LARGE, Ok(())));
 }

@@ -3,12 +3,12 @@
 
 use crate::positions::one_each;
 use std::alloc::Global;
-use sw_base::{Chan, LayerName, ScpiError, Sequence};
+use sw_base::{Boxed, Chan, LayerName, ScpiError, Sequence};
 use sw_cage::{Cage, CloseRefusal, EjectRefusal, InstallRefusal, Job, Taken};
 use sw_card::{Card, Meter, Relay};
 use sw_channel::read_positions;
 use sw_trigger::Settings;
-use sw_verify::{BoxedSnapshot, Loaded, Plan, Setup, Snapshot};
+use sw_verify::{Loaded, Plan, Setup, Snapshot};
 
 /// Whether a card comes into the slot.
 pub fn install<R: Relay, M: Meter>(cage: &mut Cage<R, M>, slot: u8, card: Card<R, M>) -> bool {
@@ -97,7 +97,7 @@ pub fn begin<R: Relay, M: Meter>(
         layout,
         closed: Sequence::new(closed),
     };
-    let Ok(boxed) = BoxedSnapshot::new(alloc, snapshot) else {
+    let Ok(boxed) = Boxed::new(alloc, snapshot) else {
         return None;
     };
     let Ok(plan) = Plan::make(alloc, boxed) else {

@@ -5,14 +5,14 @@ use crate::positions::one_each;
 use std::alloc::Global;
 use std::process::Abort;
 use std::test::Fail;
-use sw_base::{Chan, ScpiError, Sequence};
+use sw_base::{Boxed, Chan, ScpiError, Sequence};
 use sw_card::Card;
 use sw_core::{AnswerText, Core, SessionAnswer, SessionAsk, Sid};
 use sw_kinds::{Mux, SimDriver, SimSource, Volt};
 use sw_lex::{Command, PlainQuery};
 use sw_session::{CoreDesk, Desk, Talker, View, Wake};
 use sw_trigger::Settings;
-use sw_verify::{BoxedSnapshot, Layout, Loaded, Setup, Slot, Snapshot};
+use sw_verify::{Layout, Loaded, Setup, Slot, Snapshot};
 
 /// A desk that identifies itself, finds no hardware for anything else, and holds the first units.
 #[derive(Drop)]
@@ -29,7 +29,7 @@ struct Canned {
     /// Whether the last unit came with the flag that its message had answered before.
     answered: bool,
     /// What the next scan would begin from; where there is nothing, a snapshot is refused.
-    snapshot: Option<BoxedSnapshot>,
+    snapshot: Option<Boxed<Snapshot>>,
     /// How many scans were started.
     started: u32,
     /// The number of the scan of the last ask for readings, and how many that asked for.
@@ -235,7 +235,7 @@ fn takes_65536_bytes(rt: HostRuntime) -> Result<(), Fail> {
 }
 
 /// A cage of four channels in slot 1 and a meter in slot 4, with these channels in the scan's list.
-fn snapshot(alloc: Global, list: &[Chan]) -> Result<BoxedSnapshot, Fail> {
+fn snapshot(alloc: Global, list: &[Chan]) -> Result<Boxed<Snapshot>, Fail> {
     let mut settings = Settings::new(alloc);
     settings.set_list(one_each(alloc, list)?)?;
     let mut slots = Vec::new(alloc);
@@ -251,7 +251,7 @@ fn snapshot(alloc: Global, list: &[Chan]) -> Result<BoxedSnapshot, Fail> {
         layout: Layout::new(slots),
         closed: Sequence::new(Vec::new(alloc)),
     };
-    Ok(BoxedSnapshot::new(alloc, snapshot)?)
+    Ok(Boxed::new(alloc, snapshot)?)
 }
 
 /// The desk's next scan would begin from these channels.

@@ -5,7 +5,7 @@ use crate::served::serve_by;
 use crate::sessions::{
     ASYNC_INTERRUPTED, Client, IDENTIFIED, IDENTITY, INTERRUPTED, ONE, Play, ZERO, plays_after,
 };
-use crate::shop::{Shop, gathers};
+use crate::shop::{Shop, join_both, with_one};
 use std::alloc::Global;
 use std::sync::Wait;
 use std::thread::Threads;
@@ -82,35 +82,34 @@ impl<
         &self,
         rt: W,
         alloc: Global,
-        crowd: u8,
+        one: &Client<W>,
+        other: &Client<W>,
     ) -> Option<Vec<SharedDesk<H, R, M, G, W>>> {
-        let filler = gathers(SharedDesk::open(rt, &self.shared)?, crowd)?;
-        let one = Client::new(alloc, rt, crowd)?;
-        let other = Client::new(alloc, rt, crowd)?;
-        let first = self.connect(rt, alloc, &one.first)?;
-        let second = self.connect(rt, alloc, &one.second)?;
+        let desks = self.gather(rt, alloc, one.crowd)?;
         let third = self.connect(rt, alloc, &other.first)?;
-        let is_left = one.begins(1)
-            && other.joins(2)
-            && one.second.stops()
-            && one.first.tells(IDENTITY, IDENTIFIED)
-            && interrupts(&one);
-        one.second.breaks();
-        one.second.goes_on();
-        let fourth = serve_by(rt, alloc, second.join(&rt), &other.second)?;
+        let (first, second) = self.connect_both(rt, alloc, one)?;
+        let is_left = leaves_one(one, other);
+        let fourth = serve_by(rt, alloc, second.join(&rt), &other.second);
         let goes = is_left && other.attaches(2) && other.second.is_silent();
         one.closes();
         other.closes();
-        let mut desks = Vec::with_capacity(alloc, 4).ok()?;
-        desks.push(filler).ok()?;
-        desks.push(first.join(&rt)).ok()?;
-        desks.push(third.join(&rt)).ok()?;
-        desks.push(fourth.join(&rt)).ok()?;
-        if goes {
-            return Some(desks);
-        }
-        None
+        let desks = join_both(&rt, desks, (first, third))?;
+        let desks = with_one(desks, fourth?.join(&rt))?;
+        goes.then_some(desks)
     }
+}
+
+/// One message is left to a second channel that doesn't write it, while another session begins; then its connection
+/// breaks.
+fn leaves_one<W: Wait + Clock + Copy + Drop>(one: &Client<W>, other: &Client<W>) -> bool {
+    let is_left = one.begins(1)
+        && other.joins(2)
+        && one.second.stops()
+        && one.first.tells(IDENTITY, IDENTIFIED)
+        && interrupts(one);
+    one.second.breaks();
+    one.second.goes_on();
+    is_left
 }
 
 /// What two clients play.

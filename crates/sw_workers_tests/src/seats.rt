@@ -33,12 +33,17 @@ fn joins<H: Mainframe, R: Relay, M: Meter>(
     held: &mut Held<H, R, M>,
     part: &mut DeskPart<H>,
 ) -> Option<Sid> {
-    match held.ask(part, Ask::Session(SessionAsk::Join)) {
-        Answer::Session(SessionAnswer::Joined(sid), _) => Some(sid),
-        other => {
-            drop(other);
-            None
-        }
+    let answer = held.ask(part, Ask::Session(SessionAsk::Join));
+    let sid = joined(&answer);
+    drop(answer);
+    sid
+}
+
+/// The session that the answer says has joined.
+fn joined<R: Relay, M: Meter>(answer: &Answer<R, M>) -> Option<Sid> {
+    match answer {
+        Answer::Session(SessionAnswer::Joined(sid), _) => Some(*sid),
+        _ => None,
     }
 }
 

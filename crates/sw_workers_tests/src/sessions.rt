@@ -4,7 +4,7 @@ ghost use Rattle.std.specs.Prelude.{◌≡◌};
 ghost use Rattle.sw_core.specs.Opening.{IsFresh};
 
 use crate::asides::{aborts_a_pause, both_leave, leaves_two};
-use crate::shop::{Shop, fitted, gathers};
+use crate::shop::{Shop, fitted, join_both};
 use crate::wires::End;
 use std::alloc::Global;
 use std::marker::Brand;
@@ -339,29 +339,32 @@ impl<
         crowd: u8,
         play: Play,
     ) -> Option<Vec<SharedDesk<H, R, M, G, W>>> {
-        if let Play::ServesAgain = play {
-            return self.serve_again(rt, alloc, crowd);
-        }
-        let filler = gathers(SharedDesk::open(rt, &self.shared)?, crowd)?;
         let one = Client::new(alloc, rt, crowd)?;
         let other = Client::new(alloc, rt, crowd)?;
-        let first = self.connect(rt, alloc, &one.first)?;
-        let second = self.connect(rt, alloc, &one.second)?;
-        let third = self.connect(rt, alloc, &other.first)?;
-        let fourth = self.connect(rt, alloc, &other.second)?;
-        let goes = play.goes(&one, &other);
+        match play {
+            Play::ServesAgain => self.serve_again(rt, alloc, &one, &other),
+            _ => self.serve_both(rt, alloc, &one, &other, play),
+        }
+    }
+
+    /// Serves both connections of these two clients, which play. Gives the desks back where all went as it should.
+    fn serve_both(
+        &self,
+        rt: W,
+        alloc: Global,
+        one: &Client<W>,
+        other: &Client<W>,
+        play: Play,
+    ) -> Option<Vec<SharedDesk<H, R, M, G, W>>> {
+        let desks = self.gather(rt, alloc, one.crowd)?;
+        let of_one = self.connect_both(rt, alloc, one)?;
+        let of_other = self.connect_both(rt, alloc, other)?;
+        let goes = play.goes(one, other);
         one.closes();
         other.closes();
-        let mut desks = Vec::with_capacity(alloc, 5).ok()?;
-        desks.push(filler).ok()?;
-        desks.push(first.join(&rt)).ok()?;
-        desks.push(second.join(&rt)).ok()?;
-        desks.push(third.join(&rt)).ok()?;
-        desks.push(fourth.join(&rt)).ok()?;
-        if goes {
-            return Some(desks);
-        }
-        None
+        let desks = join_both(&rt, desks, of_one)?;
+        let desks = join_both(&rt, desks, of_other)?;
+        goes.then_some(desks)
     }
 }
 

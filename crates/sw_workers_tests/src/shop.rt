@@ -73,6 +73,9 @@ pub fn fitted<D: Driver, S: Source>(
     None
 }
 
+/// A thread that gives the desk back by which it works.
+pub type DeskThread<H, R, M, G, W> = JoinHandle<SharedDesk<H, R, M, G, W>>;
+
 /// A mainframe that threads share, and its workers.
 #[derive(Drop)]
 pub struct Shop<
@@ -83,8 +86,8 @@ pub struct Shop<
     W: Threads + Wait + Clock + Copy + Drop + Send + Sync + 'static,
 > {
     pub shared: Arc<Shared<H, R, M, G>, Global>,
-    card_worker: JoinHandle<SharedDesk<H, R, M, G, W>>,
-    timer_worker: JoinHandle<SharedDesk<H, R, M, G, W>>,
+    card_worker: DeskThread<H, R, M, G, W>,
+    timer_worker: DeskThread<H, R, M, G, W>,
 }
 
 impl<
@@ -155,21 +158,58 @@ impl<
             card_worker,
             timer_worker,
         } = self;
-        let mut desks = sessions;
         shared.end_work(&rt);
-        desks.push(card_worker.join(&rt)).ok()?;
-        desks.push(timer_worker.join(&rt)).ok()?;
-        let notes = shared.recent(&rt).ok()?;
-        let last = notes.as_slice().last()?;
+        let desks = join_both(&rt, sessions, (card_worker, timer_worker))?;
+        let last = last_note(&rt, &shared);
         let mut own = SharedDesk::open(rt, &shared)?;
         own.open_all();
-        desks.push(own).ok()?;
+        let desks = with_one(desks, own)?;
         let closed = close_down(&rt, alloc, shared, desks).ok()?;
-        if come_out(&closed, &SERIALS) && closed.events.wrapping_sub(last.number) == OPENING {
-            return Some(*last);
-        }
-        None
+        last_if_whole(closed, last)
     }
+}
+
+/// These and one more.
+pub fn with_one<T: Drop>(list: Vec<T>, one: T) -> Option<Vec<T>> {
+    let mut list = list;
+    list.push(one).ok()?;
+    Some(list)
+}
+
+/// These desks and those of two threads, once they have ended.
+pub fn join_both<T: Drop, W: Threads>(
+    rt: &W,
+    desks: Vec<T>,
+    threads: (JoinHandle<T>, JoinHandle<T>),
+) -> Option<Vec<T>> {
+    let mut desks = desks;
+    let (first, second) = threads;
+    desks.reserve(2).ok()?;
+    desks.push(first.join(rt)).unwrap();
+    desks.push(second.join(rt)).unwrap();
+    Some(desks)
+}
+
+/// The note of the last event.
+fn last_note<H: Mainframe, R: Relay, M: Meter, G: Gate + Drop, W: Wait>(
+    rt: &W,
+    shared: &Shared<H, R, M, G>,
+) -> Option<Note> {
+    let notes = shared.recent(rt).ok()?;
+    notes.as_slice().last().copied()
+}
+
+/// The last note before every relay was opened, where the events since are those of the opening and the cards come out
+/// by slot, with nothing closed.
+fn last_if_whole<R: Relay, M: Meter>(closed: Closed<R, M>, last: Option<Note>) -> Option<Note> {
+    let has_come_out = come_out(&closed, &SERIALS);
+    let events = closed.events;
+    drop(closed);
+    let last = last?;
+    if has_come_out && events.wrapping_sub(last.number) == OPENING {
+        return Some(last);
+    }
+    None
 }
 
 /// How many events open every relay of it: each of 16 slots is asked for its card, and two have one, which goes back.
@@ -294,11 +334,11 @@ fn is_lock(answer: SessionAnswer) -> bool {
     is_so
 }
 
-/// Joins as `crowd` sessions by one desk, and gives it back where all are joined.
-pub fn gathers<D: Desk + Drop>(desk: D, crowd: u8) -> Option<D> {
+/// Joins as `crowd` sessions by one desk, and gives it as a list where all are joined.
+pub fn gathers<D: Desk + Drop>(alloc: Global, desk: D, crowd: u8) -> Option<Vec<D>> {
     let mut desk = desk;
     for _ in 0..crowd {
         join(&mut desk)?;
     }
-    Some(desk)
+    with_one(Vec::new(alloc), desk)
 }

@@ -1,7 +1,7 @@
 //! Several sessions that wait, a wake between an ask and its wait, and what is left of a limit.
 
 use crate::latches::{Latch, SharedLatch};
-use crate::shop::{gathers, join, played, tells};
+use crate::shop::{join, played, tells};
 use crate::threads::{Scene, TRIGGERED, awaits_end, pauses};
 use std::alloc::Global;
 use std::sync::Wait;
@@ -144,18 +144,27 @@ pub fn misses_no_wake<D: Desk + Drop + Send + 'static>(
     third: D,
 ) -> Option<(D, D, D)> {
     let mut first = first;
-    let mut second = gathers(second, 1)?;
-    let sid = join(&mut first)?;
-    let other = join(&mut second)?;
-    if !tells(alloc, &mut first, sid, TRIGGERED, b"") {
-        return None;
-    }
-    let ask = held(&mut second, other)?;
-    let is_ended = tells(alloc, &mut first, sid, b"ABOR", b"");
-    if is_ended && may_go_on(&mut second) && may_go_on(&mut second) && is_done(&mut second, ask) {
+    let mut second = second;
+    if is_at_once(alloc, &mut first, &mut second) == Some(true) {
         return Some((first, second, third));
     }
     None
+}
+
+/// Whether the wait is none, by these desks: that of the session that ends the scan, and that of two others, one of
+/// which waits.
+fn is_at_once<D: Desk>(alloc: Global, first: &mut D, second: &mut D) -> Option<bool> {
+    join(second)?;
+    let sid = join(first)?;
+    let other = join(second)?;
+    if !tells(alloc, first, sid, TRIGGERED, b"") {
+        return None;
+    }
+    let ask = held(second, other)?;
+    let is_ended = tells(alloc, first, sid, b"ABOR", b"");
+    let may_go_on = may_go_on(second) && may_go_on(second);
+    let is_done = is_done(second, ask);
+    Some(is_ended && may_go_on && is_done)
 }
 
 #[test]

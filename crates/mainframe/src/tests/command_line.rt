@@ -21,36 +21,41 @@ fn asked(alloc: Global, words: &[&str]) -> Result<Result<Order, ErrorKind>, Fail
     }
 }
 
-#[test]
-fn a_run_with_a_fuse_and_without(rt: HostRuntime) -> Result<(), Fail> {
-    assert_eq!(rt; asked(rt.alloc(), &["run"])?, Ok(Order::Run(None)));
-    assert_eq!(rt;
-        asked(rt.alloc(), &["run", "--fuse", "1"])?,
-        Ok(Order::Run(Some(1)))
-    );
-    let most = asked(rt.alloc(), &["run", "--fuse", "1000000"])?;
-    assert_eq!(rt; most, Ok(Order::Run(Some(1_000_000))));
+/// These words ask for that.
+fn check_asked(rt: &impl Abort, alloc: Global, words: &[&str], order: Order) -> Result<(), Fail> {
+    assert_eq!(rt; asked(alloc, words)?, Ok(order));
     Ok(())
 }
 
+#[test]
+fn a_run_with_a_fuse_and_without(rt: HostRuntime) -> Result<(), Fail> {
+    check_asked(&rt, rt.alloc(), &["run"], Order::Run(None))?;
+    check_asked(
+        &rt,
+        rt.alloc(),
+        &["run", "--fuse", "1"],
+        Order::Run(Some(1)),
+    )?;
+    let most = Order::Run(Some(1_000_000));
+    check_asked(&rt, rt.alloc(), &["run", "--fuse", "1000000"], most)
+}
+
 /// To serve at this port of this machine alone, for ever, and to say nothing of it.
-fn at(port: u16) -> Result<Order, ErrorKind> {
+fn at(port: u16) -> Order {
     let serving = Serving {
         address: None,
         port,
         until_end_of_input: false,
         is_logged: false,
     };
-    Ok(Order::Serve(serving, None))
+    Order::Serve(serving, None)
 }
 
 #[test]
 fn a_port_and_the_usual_one(rt: HostRuntime) -> Result<(), Fail> {
-    let usual = asked(rt.alloc(), &["serve"])?;
-    let least = asked(rt.alloc(), &["serve", "--port", "1"])?;
-    let most = asked(rt.alloc(), &["serve", "--port", "65535"])?;
-    assert!(rt; usual == at(4880) && least == at(1) && most == at(65_535));
-    Ok(())
+    check_asked(&rt, rt.alloc(), &["serve"], at(4880))?;
+    check_asked(&rt, rt.alloc(), &["serve", "--port", "1"], at(1))?;
+    check_asked(&rt, rt.alloc(), &["serve", "--port", "65535"], at(65_535))
 }
 
 /// These words are refused with status 2.
@@ -81,25 +86,33 @@ fn a_port_out_of_range(rt: HostRuntime) -> Result<(), Fail> {
     check_refused(&rt, rt.alloc(), &["serve", "--port", "hislip"], range)
 }
 
-/// Whether this address is bound where it is asked for.
-fn is_bound(order: Result<Order, ErrorKind>, bound: &str) -> bool {
-    match (order, bound.parse::<SocketAddr>()) {
-        (Ok(Order::Serve(serving, _)), Ok(at)) => serving.bound_at() == at,
-        _ => false,
+/// The address that is bound where this is asked for.
+fn bound_at(order: &Result<Order, ErrorKind>) -> Option<SocketAddr> {
+    match order {
+        Ok(Order::Serve(serving, _)) => Some(serving.bound_at()),
+        _ => None,
+    }
+}
+
+/// Whether this address is bound where these words ask for it.
+fn is_bound(alloc: Global, words: &[&str], bound: &str) -> Result<bool, Fail> {
+    let order = asked(alloc, words)?;
+    let at = bound_at(&order);
+    drop(order);
+    match (at, bound.parse::<SocketAddr>()) {
+        (Some(at), Ok(bound)) => Ok(at == bound),
+        _ => Ok(false),
     }
 }
 
 #[test]
 fn addresses(rt: HostRuntime) -> Result<(), Fail> {
-    let own = asked(rt.alloc(), &["serve"])?;
-    let all = asked(
-        rt.alloc(),
-        &["serve", "--address", "0.0.0.0", "--port", "1"],
-    )?;
-    let six = asked(rt.alloc(), &["serve", "--address", "::1"])?;
-    assert!(rt;
-        is_bound(own, "127.0.0.1:4880") && is_bound(all, "0.0.0.0:1") && is_bound(six, "[::1]:4880")
-    );
+    let alloc = rt.alloc();
+    let all = ["serve", "--address", "0.0.0.0", "--port", "1"];
+    let six = ["serve", "--address", "::1"];
+    assert!(rt; is_bound(alloc, &["serve"], "127.0.0.1:4880")?);
+    assert!(rt; is_bound(alloc, &all, "0.0.0.0:1")?);
+    assert!(rt; is_bound(alloc, &six, "[::1]:4880")?);
     let none = ErrorKind::ValueValidation;
     check_refused(&rt, rt.alloc(), &["serve", "--address", "localhost"], none)?;
     check_refused(
@@ -112,15 +125,14 @@ fn addresses(rt: HostRuntime) -> Result<(), Fail> {
 
 #[test]
 fn an_end_and_a_log(rt: HostRuntime) -> Result<(), Fail> {
-    let both = asked(rt.alloc(), &["serve", "--until-end-of-input", "--log"])?;
     let wanted = Serving {
         address: None,
         port: 4880,
         until_end_of_input: true,
         is_logged: true,
     };
-    assert_eq!(rt; both, Ok(Order::Serve(wanted, None)));
-    Ok(())
+    let both = ["serve", "--until-end-of-input", "--log"];
+    check_asked(&rt, rt.alloc(), &both, Order::Serve(wanted, None))
 }
 
 /// The name of a file.
@@ -132,13 +144,13 @@ fn file(alloc: Global) -> Result<String, AllocError> {
 fn a_rack(rt: HostRuntime) -> Result<(), Fail> {
     let alloc = rt.alloc();
     let run = Order::RunRack(file(alloc)?);
-    assert_eq!(rt; asked(alloc, &["run", "--rack", "F"])?, Ok(run));
+    check_asked(&rt, alloc, &["run", "--rack", "F"], run)?;
     let check = Order::Check(Some(file(alloc)?));
-    assert_eq!(rt; asked(alloc, &["check", "--rack", "F"])?, Ok(check));
+    check_asked(&rt, alloc, &["check", "--rack", "F"], check)?;
     let rack = Order::Rack(file(alloc)?);
-    assert_eq!(rt; asked(alloc, &["rack", "F"])?, Ok(rack));
+    check_asked(&rt, alloc, &["rack", "F"], rack)?;
     let off = Order::Off(file(alloc)?);
-    assert_eq!(rt; asked(alloc, &["off", "--rack", "F"])?, Ok(off));
+    check_asked(&rt, alloc, &["off", "--rack", "F"], off)?;
     check_refused(&rt, alloc, &["rack"], ErrorKind::MissingRequiredArgument)?;
     check_refused(&rt, alloc, &["off"], ErrorKind::MissingRequiredArgument)?;
     let both = ["run", "--fuse", "1", "--rack", "F"];
@@ -151,11 +163,10 @@ fn a_rack(rt: HostRuntime) -> Result<(), Fail> {
 fn a_scan_program(rt: HostRuntime) -> Result<(), Fail> {
     let alloc = rt.alloc();
     let plain = Order::Program(None, file(alloc)?);
-    assert_eq!(rt; asked(alloc, &["run", "--program", "F"])?, Ok(plain));
+    check_asked(&rt, alloc, &["run", "--program", "F"], plain)?;
     let fused = Order::Program(Some(1), file(alloc)?);
     let words = ["run", "--fuse", "1", "--program", "F"];
-    assert_eq!(rt; asked(alloc, &words)?, Ok(fused));
-    Ok(())
+    check_asked(&rt, alloc, &words, fused)
 }
 
 #[test]

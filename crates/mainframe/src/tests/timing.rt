@@ -125,28 +125,56 @@ const ENDED: &[u8] = b"HS\x07\x00\xff\xff\xff\x00\x00\x00\x00\x00\x00\x00\x00\x0
 /// A scan with a pause of an hour.
 const LONG: &[u8] = b"TRIG:DEL 3600;:INIT\n";
 
-/// Session 2 begins many pauses that it aborts, and then a short one that is over in time, and leaves within a long
-/// one.
+/// Begins many pauses and aborts them, and says whether all is done then.
+fn aborts_pauses(alloc: Global, stream: &mut TcpStream) -> Option<bool> {
+    let stale = stale_pauses(alloc)?;
+    for _ in 0..MESSAGES {
+        stream.write_all(stale.as_slice()).ok()?;
+    }
+    drop(stale);
+    let asked = program(alloc, 0, b"*OPC?\n")?;
+    Some(answers(stream, asked.as_slice(), ENDED))
+}
+
+/// Begins a short pause, and says whether it is over in time.
+fn is_over_soon<C: Clock>(rt: &C, alloc: Global, stream: &mut TcpStream) -> Option<bool> {
+    let short = program(alloc, 0, SHORT)?;
+    let start = Instant::now(rt).ok()?;
+    let is_ended = answers(stream, short.as_slice(), ENDED);
+    Some(is_ended && is_soon(rt, start))
+}
+
+/// Begins a long pause, and says whether that was sent.
+fn begins_long(alloc: Global, stream: &mut TcpStream) -> Option<bool> {
+    let long = program(alloc, 1, LONG)?;
+    Some(stream.write_all(long.as_slice()).is_ok())
+}
+
+/// One session begins many pauses that it aborts, and then another one a short pause that is over in time, and a long
+/// one. Whether all goes so.
+fn pauses_in_time<C: Clock>(
+    rt: &C,
+    alloc: Global,
+    first: &mut TcpStream,
+    other: &mut TcpStream,
+) -> Option<bool> {
+    let is_aborted = aborts_pauses(alloc, first)?;
+    let is_over_soon = is_over_soon(rt, alloc, other)?;
+    let is_begun = begins_long(alloc, other)?;
+    Some(is_aborted && is_over_soon && is_begun)
+}
+
+/// Session 2 begins many pauses that it aborts, then session 1 a short one that is over in time, and leaves within a
+/// long one.
 fn is_on_time<R: Net<Stream = TcpStream> + Clock>(
     rt: &R,
     alloc: Global,
     addr: SocketAddr,
 ) -> Option<bool> {
-    let stale = stale_pauses(alloc)?;
-    let asked = program(alloc, 0, b"*OPC?\n")?;
-    let short = program(alloc, 0, SHORT)?;
-    let long = program(alloc, 1, LONG)?;
     let mut other = Client::new(rt, addr, 1)?;
     let mut client = Client::new(rt, addr, 2)?;
-    for _ in 0..MESSAGES {
-        client.first.write_all(stale.as_slice()).ok()?;
-    }
-    let is_done = answers(&mut client.first, asked.as_slice(), ENDED);
-    let start = Instant::now(rt).ok()?;
-    let is_ended = answers(&mut other.first, short.as_slice(), ENDED);
-    let is_short = is_soon(rt, start);
-    let is_begun = other.first.write_all(long.as_slice()).is_ok();
-    Some(is_done && is_ended && is_short && is_begun && client.leaves() && other.leaves())
+    let goes = pauses_in_time(rt, alloc, &mut client.first, &mut other.first);
+    Some(goes == Some(true) && client.leaves() && other.leaves())
 }
 
 #[test]
