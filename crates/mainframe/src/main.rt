@@ -55,7 +55,7 @@ use std::time::Clock;
 use std::{fs, io};
 use sw_base::Boxed;
 use sw_card::{Meter, Relay};
-use sw_serve::{Door, SlotCard};
+use sw_serve::{SlotCard, TcpPort};
 use sw_verify::{Layout, ScanProgram};
 use whole::read_whole;
 
@@ -181,8 +181,8 @@ fn serve_simulated<
         Err(status) => return status,
     };
     let log = log_of(rt, alloc, serving);
-    let mut door = Door::new(rt, alloc, &listener, input_of(host, serving), log);
-    done(&rt, serve_on(rt, alloc, &mut door, u32::MAX, log))
+    let mut connections = TcpPort::new(rt, alloc, &listener, input_of(host, serving), log);
+    done(&rt, serve_on(rt, alloc, &mut connections, u32::MAX, log))
 }
 
 /// Serves connections by the cards of this file's rack.
@@ -234,8 +234,11 @@ fn serve_over<
         Err(status) => return status,
     };
     let log = log_of(rt, alloc, serving);
-    let mut door = Door::new(rt, alloc, &listener, input, log);
-    done(&rt, serve_by(rt, alloc, &mut door, u32::MAX, cards, log))
+    let mut connections = TcpPort::new(rt, alloc, &listener, input, log);
+    done(
+        &rt,
+        serve_by(rt, alloc, &mut connections, u32::MAX, cards, log),
+    )
 }
 
 /// Standard input, where it is served until that ends.

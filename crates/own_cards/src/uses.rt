@@ -9,7 +9,7 @@ use std::sync::Wait;
 use std::thread::Threads;
 use std::time::Clock;
 use sw_card::{Meter, Relay};
-use sw_serve::{Door, Silent, SlotCard, desk_for_one, serve_cards};
+use sw_serve::{Silent, SlotCard, TcpPort, desk_for_one, serve_cards};
 use sw_session::Talker;
 
 /// Answers each line of the reader, unless the mainframe refuses a card.
@@ -50,8 +50,8 @@ pub fn serve<
     I: Read + AsRawFd + Drop,
 >(rt: W, alloc: Global, port: u16, input: I, cards: Vec<SlotCard<R, M>>) -> Result<(), Fault> {
     let listener = TcpListener::bind(&rt, (Ipv4Addr::LOCALHOST, port))?;
-    let mut door = Door::new(rt, alloc, &listener, Some(input), Silent);
-    let closed = serve_cards(rt, alloc, &mut door, u32::MAX, cards)?;
+    let mut connections = TcpPort::new(rt, alloc, &listener, Some(input), Silent);
+    let closed = serve_cards(rt, alloc, &mut connections, u32::MAX, cards)?;
     drop(closed);
     Ok(())
 }

@@ -6,11 +6,11 @@ use Rattle.sw_base.specs.declared.terms.LayerName.TheVariants.{Arm, Trigger}
 use Rattle.sw_base.specs.declared.error.ScpiError.TheVariants.{TriggerIgnored, ArmIgnored, DataOutOfRange, TooMuchData}
 use Rattle.sw_base.specs.declared.error.ScpiError.TheVariants.{SettingsConflict, HardwareError}
 use Rattle.sw_lex.specs.declared.command.Command.{Command}
-use Rattle.sw_lex.specs.declared.command.Plain.{Plain}
+use Rattle.sw_lex.specs.declared.command.NoData.{NoData}
 use Rattle.sw_lex.specs.declared.command.GroupQuery.{GroupQuery}
 use Rattle.sw_lex.specs.declared.command.SlotQuery.{SlotQuery}
 use Rattle.sw_lex.specs.declared.command.StatusRead.{StatusRead}
-use Rattle.sw_lex.specs.declared.command.Channels.{Channels}
+use Rattle.sw_lex.specs.declared.command.RelayCommand.{RelayCommand}
 use Rattle.sw_lex.specs.declared.command.Time.{Time}
 use Rattle.sw_lex.specs.declared.command.Setting.{Setting}
 use Rattle.sw_lex.specs.declared.command.StatusSetting.{StatusSetting}
@@ -195,16 +195,16 @@ bits_fine (StatusSetting.PositiveTransition group bits) s u = grouped s group _ 
 bits_fine (StatusSetting.NegativeTransition group bits) s u = grouped s group _ u ((told_group s group u).ntr bits)
 
 pub harmless : (p : Panel) (available : Bool) (command : Command) → IsHarmlessAction p (action_of available command)
-harmless p available (Command.Plain Plain.Reset) = tt
-harmless p available (Command.Plain Plain.ClearStatus) =
+harmless p available (Command.NoData NoData.Reset) = tt
+harmless p available (Command.NoData NoData.ClearStatus) =
     λ k. record { cage = k.cage; range = k.range; settings = k.settings; status = (status-kept p.status k.status).clear }
-harmless p available (Command.Plain Plain.OperationComplete) = λ k. record { cage = k.cage; range = k.range; settings = k.settings; status = k.status }
-harmless p available (Command.Plain Plain.OperationCompleteQuery) = tt
-harmless p available (Command.Plain Plain.Wait) = λ k. k
-harmless p available (Command.Plain Plain.Trigger) = not_triggered
-harmless p available (Command.Plain Plain.Abort) = λ k. record { cage = fallen_all p.cage k.cage; range = k.range; settings = tt; status = k.status }
-harmless p available (Command.Plain Plain.Initiate) = tt
-harmless p available (Command.Plain Plain.OpenAll) =
+harmless p available (Command.NoData NoData.OperationComplete) = λ k. record { cage = k.cage; range = k.range; settings = k.settings; status = k.status }
+harmless p available (Command.NoData NoData.OperationCompleteQuery) = tt
+harmless p available (Command.NoData NoData.Wait) = λ k. k
+harmless p available (Command.NoData NoData.Trigger) = not_triggered
+harmless p available (Command.NoData NoData.Abort) = λ k. record { cage = fallen_all p.cage k.cage; range = k.range; settings = tt; status = k.status }
+harmless p available (Command.NoData NoData.Initiate) = tt
+harmless p available (Command.NoData NoData.OpenAll) =
     λ idle k. record {
       cage = kept_rack p.cage (all_open p.cage.cards) k.cage (none_of p idle) (identities_all_open p.cage.cards)
           (exclusive_none _ _ (all_open_closed p.cage.cards));
@@ -212,9 +212,9 @@ harmless p available (Command.Plain Plain.OpenAll) =
       settings = k.settings;
       status = k.status;
     }
-harmless p available (Command.Plain Plain.Preset) = λ u. (status-kept p.status u).reset
-harmless p available (Command.Plain Plain.Fetch) = tt
-harmless p available (Command.Plain Plain.Read) = tt
+harmless p available (Command.NoData NoData.Preset) = λ u. (status-kept p.status u).reset
+harmless p available (Command.NoData NoData.Fetch) = tt
+harmless p available (Command.NoData NoData.Read) = tt
 harmless p available (Command.Query query) = tt
 harmless p available (Command.LayerQuery query layer) = tt
 harmless p available (Command.GroupQuery GroupQuery.Condition StatusGroup.Operation) = tt
@@ -225,15 +225,15 @@ harmless p available (Command.GroupQuery GroupQuery.NegativeTransition group) = 
 harmless p available (Command.SlotQuery SlotQuery.Kind slot) = tt
 harmless p available (Command.SlotQuery SlotQuery.Groups slot) = tt
 harmless p available (Command.SlotQuery SlotQuery.State slot) = tt
-harmless p available (Command.ReadOut read) = λ u. read_fine read p.status u
+harmless p available (Command.DestructiveQuery read) = λ u. read_fine read p.status u
 harmless p available (Command.Signal layer) = not_ignored layer
 harmless p available (Command.Continuous true) = conflict
 harmless p available (Command.Continuous false) = λ k. k
-harmless p available (Command.Channels Channels.Close chans) = λ idle. idle
-harmless p available (Command.Channels Channels.CloseQuery chans) = tt
-harmless p available (Command.Channels Channels.CloseCheck chans) = tt
-harmless p available (Command.Channels Channels.Open chans) = λ idle. idle
-harmless p available (Command.Channels Channels.OpenQuery chans) = tt
+harmless p available (Command.Relays RelayCommand.Close chans) = λ idle. idle
+harmless p available (Command.Relays RelayCommand.CloseQuery chans) = tt
+harmless p available (Command.Relays RelayCommand.CloseCheck chans) = tt
+harmless p available (Command.Relays RelayCommand.Open chans) = λ idle. idle
+harmless p available (Command.Relays RelayCommand.OpenQuery chans) = tt
 harmless p available (Command.ListingCheck listing) = tt
 harmless p available (Command.Set setting) = λ idle. (λ fits r. ranged setting p.settings fits r, no_fault setting, idle)
 harmless p available (Command.SetStatus setting) = λ u. bits_fine setting p.status u

@@ -10,8 +10,8 @@ use Rattle.sw_base.specs.declared.error.ScpiError.TheVariants.{UndefinedHeader, 
 use Rattle.sw_base.specs.declared.error.ScpiError.TheVariants.{OutOfMemory}
 use Rattle.sw_card.specs.declared.board.CardFault.{CardFault}
 use Rattle.sw_lex.specs.declared.command.Command.{Command}
-use Rattle.sw_lex.specs.declared.command.Plain.{Plain}
-use Rattle.sw_lex.specs.declared.command.Channels.{Channels}
+use Rattle.sw_lex.specs.declared.command.NoData.{NoData}
+use Rattle.sw_lex.specs.declared.command.RelayCommand.{RelayCommand}
 use Rattle.sw_base.specs.declared.terms.StatusGroup.{StatusGroup}
 use Rattle.sw_lex.specs.declared.command.GroupQuery.{GroupQuery}
 use Rattle.sw_lex.specs.declared.command.SlotQuery.{SlotQuery}
@@ -121,14 +121,14 @@ KeepsAction p (BetweenScans effect) = KeepsEffect p effect
 KeepsAction p (AfterScan effect) = KeepsEffect p effect
 
 abbrev is_reset : Command → Bool
-is_reset (Command.Plain Plain.Reset) = true
+is_reset (Command.NoData NoData.Reset) = true
 is_reset command = false
 
 keeps_command : (p : Panel) (available : Bool) (command : Command) → is_reset command ≡ false → KeepsAction p (action_of available command)
-keeps_command p available (Command.Plain Plain.Reset) n = absurd (cc (n))
+keeps_command p available (Command.NoData NoData.Reset) n = absurd (cc (n))
 keeps_command p available (Command.Continuous true) n = (refl, refl)
 keeps_command p available (Command.Continuous false) n = (refl, refl)
-keeps_command p available (Command.Channels Channels.Close chans) n = (refl, refl)
+keeps_command p available (Command.Relays RelayCommand.Close chans) n = (refl, refl)
 keeps_command p available (Command.GroupQuery GroupQuery.Condition StatusGroup.Operation) n = (refl, refl)
 keeps_command p available (Command.GroupQuery GroupQuery.Condition StatusGroup.Questionable) n = (refl, refl)
 keeps_command p available (Command.GroupQuery GroupQuery.Enable group) n = (refl, refl)
@@ -199,15 +199,15 @@ keep_unit p sid command available f a w q n h =
 -- nobody joins or leaves by a command
 pub unit_sessions : (p : Panel) (sid : Sid) (command : Command) (available f : Bool) (a : SessionAnswer) (w : Option WorkSeen) (q : Panel)
     → StepAction (action_of available command) p (Ask.Unit sid command available) f a w q → q.sessions ≡ p.sessions
-unit_sessions p sid (Command.Plain Plain.Reset) available f (Done None) w q h = ap (λ (x : Panel). x.sessions) h.0.1
-unit_sessions p sid (Command.Plain Plain.Reset) available f a w q h = absurd h.0
+unit_sessions p sid (Command.NoData NoData.Reset) available f (Done None) w q h = ap (λ (x : Panel). x.sessions) h.0.1
+unit_sessions p sid (Command.NoData NoData.Reset) available f a w q h = absurd h.0
 unit_sessions p sid command available f a w q h = (keep_unit p sid command available f a w q refl h).0
 
 reads_unit : (p : Panel) (sid : Sid) (command : Command) (available f : Bool) (a : SessionAnswer) (w : Option WorkSeen) (q : Panel)
     → StepAction (action_of available command) p (Ask.Unit sid command available) f a w q
     → q.cage.readings ≡ readings_after (AskSession (Ask.Unit sid command available)) (SaysSession a w) p.cage.readings
-reads_unit p sid (Command.Plain Plain.Reset) available f (Done None) w q h = ap (λ (x : Panel). x.cage.readings) h.0.1
-reads_unit p sid (Command.Plain Plain.Reset) available f a w q h = absurd h.0
+reads_unit p sid (Command.NoData NoData.Reset) available f (Done None) w q h = ap (λ (x : Panel). x.cage.readings) h.0.1
+reads_unit p sid (Command.NoData NoData.Reset) available f a w q h = absurd h.0
 reads_unit p sid command available f a w q h = (keep_unit p sid command available f a w q refl h).1
 
 -- ---- scans and seats
@@ -266,11 +266,11 @@ reads_joined p ask f a w q h = absurd h
 -- what is no event reads nothing
 unread_unit : (sid : Sid) (command : Command) (available : Bool) (a : SessionAnswer) (w : Option WorkSeen) (old : List Reading) → IsSilent a
     → readings_after (AskSession (Ask.Unit sid command available)) (SaysSession a w) old ≡ old
-unread_unit sid (Command.Plain Plain.Reset) available Stranger w old n = refl
-unread_unit sid (Command.Plain Plain.Reset) available Broken w old n = refl
-unread_unit sid (Command.Plain Plain.Reset) available (Hold back) w old n = refl
-unread_unit sid (Command.Plain Plain.Reset) available (Worn back) w old n = refl
-unread_unit sid (Command.Plain Plain.Reset) available a w old n = absurd n
+unread_unit sid (Command.NoData NoData.Reset) available Stranger w old n = refl
+unread_unit sid (Command.NoData NoData.Reset) available Broken w old n = refl
+unread_unit sid (Command.NoData NoData.Reset) available (Hold back) w old n = refl
+unread_unit sid (Command.NoData NoData.Reset) available (Worn back) w old n = refl
+unread_unit sid (Command.NoData NoData.Reset) available a w old n = absurd n
 unread_unit sid command available a w old n = refl
 
 unread : (ask : SessionAsk) (a : SessionAnswer) (w : Option WorkSeen) (old : List Reading) → IsSilent a

@@ -5,7 +5,7 @@ use Rattle.sw_base.specs.declared.error.ScpiError.{ScpiError}
 use Rattle.sw_base.specs.declared.error.ScpiError.TheVariants.{TriggerIgnored, ArmIgnored}
 use Rattle.sw_base.specs.declared.terms.LayerName.TheVariants as layer_name
 use Rattle.sw_lex.specs.declared.command.Command.{Command}
-use Rattle.sw_lex.specs.declared.command.Plain.{Plain}
+use Rattle.sw_lex.specs.declared.command.NoData.{NoData}
 use Rattle.sw_cage.specs.Accounts.{is_closed}
 use Rattle.sw_cage.specs.Cage.{CageSeen}
 use Rattle.sw_cage.specs.Good.{IsHeld}
@@ -59,7 +59,7 @@ missed_offer p happening error f a w q h n = ignored p happening error f h.told 
 missed_unit : (p : Panel) (sid : Sid) (command : Command) (available f : Bool) (a : SessionAnswer) (w : Option WorkSeen) (q : Panel)
     → is_trigger command ≡ true → StepAction (action_of available command) p (Ask.Unit sid command available) f a w q
     → took_command (action_of available command) a ≡ 0 → q ≡ p
-missed_unit p sid (Command.Plain Plain.Trigger) available f a w q o h n = missed_offer p Bus TriggerIgnored f a w q h n
+missed_unit p sid (Command.NoData NoData.Trigger) available f a w q o h n = missed_offer p Bus TriggerIgnored f a w q h n
 missed_unit p sid (Command.Signal layer_name.Trigger) available f a w q o h n = missed_offer p (Signal layer_name.Trigger) TriggerIgnored f a w q h n
 missed_unit p sid (Command.Signal (layer_name.Arm arm)) available f a w q o h n = missed_offer p (Signal (layer_name.Arm arm)) ArmIgnored f a w q h n
 missed_unit p sid command available f a w q o h n = absurd (cc (o))

@@ -12,8 +12,8 @@ use Rattle.sw_base.specs.Reading.{reading_text}
 use Rattle.sw_base.specs.declared.reading.Reading.{Reading}
 use Rattle.sw_card.specs.Account.{Account, closed_at}
 use Rattle.sw_lex.specs.declared.command.Command.{Command}
-use Rattle.sw_lex.specs.declared.command.Plain.{Plain}
-use Rattle.sw_lex.specs.declared.command.Channels.{Channels}
+use Rattle.sw_lex.specs.declared.command.NoData.{NoData}
+use Rattle.sw_lex.specs.declared.command.RelayCommand.{RelayCommand}
 use Rattle.sw_verify.specs.declared.snapshot.Snapshot.{Snapshot}
 use Rattle.sw_status.specs.StatusModel.{StatusSeen, queued}
 use Rattle.sw_verify.specs.Channels.{is_among}
@@ -80,45 +80,45 @@ done_of p sid command available f q e =
     not_kept_out (admission p sid (Ask.Unit sid command available)) p (Ask.Unit sid command available) f None
     None e.done e.acts.1
 
-pub closes : (p q : Panel) (chans : List Channel) (available failed : Bool) → IsDoneFor p (Command.Channels Channels.Close chans) available failed q
+pub closes : (p q : Panel) (chans : List Channel) (available failed : Bool) → IsDoneFor p (Command.Relays RelayCommand.Close chans) available failed q
     → (c : Channel)
     → is_among chans c ≡ true
     → is_closed q.cage.cards c ≡ true
 closes p q chans available failed s c i =
     let sid = s.0 in
     let h = s.1 in
-    let command = Command.Channels Channels.Close chans in
+    let command = Command.Relays RelayCommand.Close chans in
     let e = event_of p (AskSession (Ask.Unit sid command available)) failed (SaysSession (Done None) None) q (λ w. w) h in
     let d = (not_barred (is_running p) p (ClosesListed chans) failed None None e.done (done_of p sid command available failed q e)).0 in
     ap (λ (x : Panel). is_closed x.cage.cards c) e.after ∙ d.2.closed c ∙ ap (λ (b : Bool). if b then true else is_closed p.cage.cards c) i
 
-pub opens : (p q : Panel) (chans : List Channel) (available failed : Bool) → IsDoneFor p (Command.Channels Channels.Open chans) available failed q
+pub opens : (p q : Panel) (chans : List Channel) (available failed : Bool) → IsDoneFor p (Command.Relays RelayCommand.Open chans) available failed q
     → (c : Channel)
     → is_among chans c ≡ true
     → is_closed q.cage.cards c ≡ false
 opens p q chans available failed s c i =
     let sid = s.0 in
     let h = s.1 in
-    let command = Command.Channels Channels.Open chans in
+    let command = Command.Relays RelayCommand.Open chans in
     let e = event_of p (AskSession (Ask.Unit sid command available)) failed (SaysSession (Done None) None) q (λ w. w) h in
     let d = (not_barred (is_running p) p (OpensListed chans) failed None None e.done (done_of p sid command available failed q e)).0 in
     ap (λ (x : Panel). is_closed x.cage.cards c) e.after ∙ d.2.closed c ∙ ap (λ (b : Bool). if b then false else is_closed p.cage.cards c) i
 
-pub aborted : (p q : Panel) (available failed : Bool) → IsDoneFor p (Command.Plain Plain.Abort) available failed q → IsAtRest q
+pub aborted : (p q : Panel) (available failed : Bool) → IsDoneFor p (Command.NoData NoData.Abort) available failed q → IsAtRest q
 aborted p q available failed s =
     let sid = s.0 in
     let h = s.1 in
-    let e = event_of p (AskSession (Ask.Unit sid (Command.Plain Plain.Abort) available)) failed (SaysSession (Done None) None) q (λ w. w) h in
-    let d = (done_of p sid (Command.Plain Plain.Abort) available failed q e).0 in
+    let e = event_of p (AskSession (Ask.Unit sid (Command.NoData NoData.Abort) available)) failed (SaysSession (Done None) None) q (λ w. w) h in
+    let d = (done_of p sid (Command.NoData NoData.Abort) available failed q e).0 in
     let cage = ap (λ (x : Panel). x.cage) e.after ∙ ap (λ (x : Panel). x.cage) d.1 in
     record { none = λ c. ap (λ (x : CageSeen). is_closed x.cards c) cage ∙ all_open_closed p.cage.cards c; idle = ap (λ (x : CageSeen). x.scan) cage }
 
-pub reset : (p q : Panel) (available failed : Bool) → IsDoneFor p (Command.Plain Plain.Reset) available failed q → IsAtRest q
+pub reset : (p q : Panel) (available failed : Bool) → IsDoneFor p (Command.NoData NoData.Reset) available failed q → IsAtRest q
 reset p q available failed s =
     let sid = s.0 in
     let h = s.1 in
-    let e = event_of p (AskSession (Ask.Unit sid (Command.Plain Plain.Reset) available)) failed (SaysSession (Done None) None) q (λ w. w) h in
-    let d = (done_of p sid (Command.Plain Plain.Reset) available failed q e).0 in
+    let e = event_of p (AskSession (Ask.Unit sid (Command.NoData NoData.Reset) available)) failed (SaysSession (Done None) None) q (λ w. w) h in
+    let d = (done_of p sid (Command.NoData NoData.Reset) available failed q e).0 in
     let cage = ap (λ (x : Panel). x.cage) e.after ∙ ap (λ (x : Panel). x.cage) d.1 in
     record { none = λ c. ap (λ (x : CageSeen). is_closed x.cards c) cage ∙ all_open_closed p.cage.cards c; idle = ap (λ (x : CageSeen). x.scan) cage }
 

@@ -11,8 +11,8 @@ use Rattle.sw_base.specs.declared.error.ScpiError.TheVariants.{UndefinedHeader, 
 use Rattle.sw_base.specs.declared.error.ScpiError.TheVariants.{OutOfMemory}
 use Rattle.sw_card.specs.declared.board.CardFault.{CardFault}
 use Rattle.sw_lex.specs.declared.command.Command.{Command}
-use Rattle.sw_lex.specs.declared.command.Plain.{Plain}
-use Rattle.sw_lex.specs.declared.command.Channels.{Channels}
+use Rattle.sw_lex.specs.declared.command.NoData.{NoData}
+use Rattle.sw_lex.specs.declared.command.RelayCommand.{RelayCommand}
 use Rattle.sw_base.specs.declared.terms.StatusGroup.{StatusGroup}
 use Rattle.sw_lex.specs.declared.command.GroupQuery.{GroupQuery}
 use Rattle.sw_lex.specs.declared.command.SlotQuery.{SlotQuery}
@@ -123,10 +123,10 @@ KeepsAction p (BetweenScans effect) = KeepsEffect p effect
 KeepsAction p (AfterScan effect) = KeepsEffect p effect
 
 keeps_command : (p : Panel) (available : Bool) (command : Command) → KeepsAction p (action_of available command)
-keeps_command p available (Command.Plain Plain.Reset) = refl
+keeps_command p available (Command.NoData NoData.Reset) = refl
 keeps_command p available (Command.Continuous true) = refl
 keeps_command p available (Command.Continuous false) = refl
-keeps_command p available (Command.Channels Channels.Close chans) = refl
+keeps_command p available (Command.Relays RelayCommand.Close chans) = refl
 keeps_command p available (Command.GroupQuery GroupQuery.Condition StatusGroup.Operation) = refl
 keeps_command p available (Command.GroupQuery GroupQuery.Condition StatusGroup.Questionable) = refl
 keeps_command p available (Command.GroupQuery GroupQuery.Enable group) = refl

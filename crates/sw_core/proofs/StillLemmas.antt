@@ -13,8 +13,8 @@ use Rattle.sw_lex.specs.declared.command.Command.{Command}
 use Rattle.sw_base.specs.declared.terms.StatusGroup.{StatusGroup}
 use Rattle.sw_lex.specs.declared.command.GroupQuery.{GroupQuery}
 use Rattle.sw_lex.specs.declared.command.SlotQuery.{SlotQuery}
-use Rattle.sw_lex.specs.declared.command.Plain.{Plain}
-use Rattle.sw_lex.specs.declared.command.Channels.{Channels}
+use Rattle.sw_lex.specs.declared.command.NoData.{NoData}
+use Rattle.sw_lex.specs.declared.command.RelayCommand.{RelayCommand}
 use Rattle.sw_verify.specs.declared.setup.Setup.{Setup}
 use Rattle.sw_status.specs.StatusModel.{StatusSeen}
 use Rattle.sw_verify.specs.Sound.{effect}
@@ -86,18 +86,18 @@ off_done sid available command = breaks_off (AskSession (Ask.Unit sid command av
 
 pub still_command : (sid : Sid) (p : Panel) (available : Bool) (command : Command)
     → IsStillAction (off_done sid available command) p (action_of available command)
-still_command sid p available (Command.Plain Plain.Reset) = refl
-still_command sid p available (Command.Plain Plain.ClearStatus) = inl refl
-still_command sid p available (Command.Plain Plain.OperationComplete) = inl refl
-still_command sid p available (Command.Plain Plain.OperationCompleteQuery) = tt
-still_command sid p available (Command.Plain Plain.Wait) = inl refl
-still_command sid p available (Command.Plain Plain.Trigger) = refl
-still_command sid p available (Command.Plain Plain.Abort) = inr (inr (refl, refl, all_open_closed p.cage.cards, inl refl))
-still_command sid p available (Command.Plain Plain.Initiate) = tt
-still_command sid p available (Command.Plain Plain.OpenAll) = λ i. inr (inl (none_of p i, none_of p i, refl))
-still_command sid p available (Command.Plain Plain.Preset) = tt
-still_command sid p available (Command.Plain Plain.Fetch) = tt
-still_command sid p available (Command.Plain Plain.Read) = tt
+still_command sid p available (Command.NoData NoData.Reset) = refl
+still_command sid p available (Command.NoData NoData.ClearStatus) = inl refl
+still_command sid p available (Command.NoData NoData.OperationComplete) = inl refl
+still_command sid p available (Command.NoData NoData.OperationCompleteQuery) = tt
+still_command sid p available (Command.NoData NoData.Wait) = inl refl
+still_command sid p available (Command.NoData NoData.Trigger) = refl
+still_command sid p available (Command.NoData NoData.Abort) = inr (inr (refl, refl, all_open_closed p.cage.cards, inl refl))
+still_command sid p available (Command.NoData NoData.Initiate) = tt
+still_command sid p available (Command.NoData NoData.OpenAll) = λ i. inr (inl (none_of p i, none_of p i, refl))
+still_command sid p available (Command.NoData NoData.Preset) = tt
+still_command sid p available (Command.NoData NoData.Fetch) = tt
+still_command sid p available (Command.NoData NoData.Read) = tt
 still_command sid p available (Command.Query query) = tt
 still_command sid p available (Command.LayerQuery query layer) = tt
 still_command sid p available (Command.GroupQuery GroupQuery.Condition StatusGroup.Operation) = tt
@@ -108,16 +108,16 @@ still_command sid p available (Command.GroupQuery GroupQuery.NegativeTransition 
 still_command sid p available (Command.SlotQuery SlotQuery.Kind slot) = tt
 still_command sid p available (Command.SlotQuery SlotQuery.Groups slot) = tt
 still_command sid p available (Command.SlotQuery SlotQuery.State slot) = tt
-still_command sid p available (Command.ReadOut read) = tt
+still_command sid p available (Command.DestructiveQuery read) = tt
 still_command sid p available (Command.Signal layer_name.Trigger) = refl
 still_command sid p available (Command.Signal (layer_name.Arm arm)) = refl
 still_command sid p available (Command.Continuous true) = tt
 still_command sid p available (Command.Continuous false) = inl refl
-still_command sid p available (Command.Channels Channels.Close chans) = λ i. none_of p i
-still_command sid p available (Command.Channels Channels.CloseQuery chans) = tt
-still_command sid p available (Command.Channels Channels.CloseCheck chans) = tt
-still_command sid p available (Command.Channels Channels.Open chans) = λ i. none_of p i
-still_command sid p available (Command.Channels Channels.OpenQuery chans) = tt
+still_command sid p available (Command.Relays RelayCommand.Close chans) = λ i. none_of p i
+still_command sid p available (Command.Relays RelayCommand.CloseQuery chans) = tt
+still_command sid p available (Command.Relays RelayCommand.CloseCheck chans) = tt
+still_command sid p available (Command.Relays RelayCommand.Open chans) = λ i. none_of p i
+still_command sid p available (Command.Relays RelayCommand.OpenQuery chans) = tt
 still_command sid p available (Command.ListingCheck listing) = tt
 still_command sid p available (Command.Set setting) = λ i. tt
 still_command sid p available (Command.SetStatus setting) = tt

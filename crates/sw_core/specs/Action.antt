@@ -17,13 +17,13 @@ use Rattle.sw_base.specs.declared.terms.StatusGroup.TheVariants as group_name
 use Rattle.sw_channel.specs.Printing.{printed, printed_positions}
 use Rattle.sw_lex.specs.Help.{headers_text}
 use Rattle.sw_lex.specs.declared.command.Command.{Command}
-use Rattle.sw_lex.specs.declared.command.Plain.{Plain}
+use Rattle.sw_lex.specs.declared.command.NoData.{NoData}
 use Rattle.sw_lex.specs.declared.command.PlainQuery.{PlainQuery}
 use Rattle.sw_lex.specs.declared.command.LayerQuery.{LayerQuery}
 use Rattle.sw_lex.specs.declared.command.GroupQuery.{GroupQuery}
 use Rattle.sw_lex.specs.declared.command.SlotQuery.{SlotQuery}
 use Rattle.sw_lex.specs.declared.command.StatusRead.{StatusRead}
-use Rattle.sw_lex.specs.declared.command.Channels.{Channels}
+use Rattle.sw_lex.specs.declared.command.RelayCommand.{RelayCommand}
 use Rattle.sw_lex.specs.declared.command.Time.{Time}
 use Rattle.sw_lex.specs.declared.command.Setting.{Setting}
 use Rattle.sw_lex.specs.declared.command.StatusSetting.{StatusSetting}
@@ -241,31 +241,31 @@ ignored_at (layer_name.Arm arm) = ArmIgnored
 
 -- whether the cage offers a command to the scan (SCPI-1999, 24; IEEE 488.2, 10.37)
 abbrev pub is_trigger : Command → Bool
-is_trigger (Command.Plain Plain.Trigger) = true
+is_trigger (Command.NoData NoData.Trigger) = true
 is_trigger (Command.Signal layer) = true
 is_trigger command = false
 
 -- whether a command waits for the end of the scan (IEEE 488.2, 12.5.2 and 12.5.3)
 abbrev pub awaits_end : Command → Bool
-awaits_end (Command.Plain Plain.OperationCompleteQuery) = true
-awaits_end (Command.Plain Plain.Wait) = true
+awaits_end (Command.NoData NoData.OperationCompleteQuery) = true
+awaits_end (Command.NoData NoData.Wait) = true
 awaits_end (Command.ScanReadings number count) = true
 awaits_end command = false
 
 -- what a command without data does
-abbrev pub plain_action : Plain → Action
-plain_action Plain.Reset = AtOnce Resets
-plain_action Plain.ClearStatus = AtOnce (Changes (λ p. record p { status = cleared p.status; opc_waits = false }))
-plain_action Plain.OperationComplete = AtOnce (Changes (λ p. record p { opc_waits = true }))
-plain_action Plain.OperationCompleteQuery = AfterScan (TellsText (λ p. decimal 1))
-plain_action Plain.Wait = AfterScan (Changes (λ p. p))
-plain_action Plain.Trigger = AtOnce (Triggers Bus TriggerIgnored)
-plain_action Plain.Abort = AtOnce (Changes aborted)
-plain_action Plain.Initiate = AtOnce Initiates
-plain_action Plain.OpenAll = BetweenScans (Changes (λ p. with_cards p (all_open p.cage.cards)))
-plain_action Plain.Preset = AtOnce (SetsStatus preset)
-plain_action Plain.Fetch = AtOnce (TellsReadings (λ p. p.cage.readings))
-plain_action Plain.Read = AtOnce Initiates
+abbrev pub no_data_action : NoData → Action
+no_data_action NoData.Reset = AtOnce Resets
+no_data_action NoData.ClearStatus = AtOnce (Changes (λ p. record p { status = cleared p.status; opc_waits = false }))
+no_data_action NoData.OperationComplete = AtOnce (Changes (λ p. record p { opc_waits = true }))
+no_data_action NoData.OperationCompleteQuery = AfterScan (TellsText (λ p. decimal 1))
+no_data_action NoData.Wait = AfterScan (Changes (λ p. p))
+no_data_action NoData.Trigger = AtOnce (Triggers Bus TriggerIgnored)
+no_data_action NoData.Abort = AtOnce (Changes aborted)
+no_data_action NoData.Initiate = AtOnce Initiates
+no_data_action NoData.OpenAll = BetweenScans (Changes (λ p. with_cards p (all_open p.cage.cards)))
+no_data_action NoData.Preset = AtOnce (SetsStatus preset)
+no_data_action NoData.Fetch = AtOnce (TellsReadings (λ p. p.cage.readings))
+no_data_action NoData.Read = AtOnce Initiates
 
 -- for each channel whether it is closed, or open, joined by commas
 abbrev pub flags_text : Bool → List Channel → Panel → List ℕ
@@ -273,12 +273,12 @@ flags_text closed chans p =
     join_with_byte 44 (map (λ c. yes_or_no (as_asked closed (is_closed p.cage.cards c))) chans)
 
 -- what a command with a channel list does
-abbrev pub channels_action : Channels → List Channel → Action
-channels_action Channels.Close chans = BetweenScans (ClosesListed chans)
-channels_action Channels.CloseQuery chans = AtOnce (TellsHardware (λ p. has_all p chans) (flags_text true chans))
-channels_action Channels.Open chans = BetweenScans (OpensListed chans)
-channels_action Channels.OpenQuery chans = AtOnce (TellsHardware (λ p. has_all p chans) (flags_text false chans))
-channels_action Channels.CloseCheck chans = AtOnce (TellsText (check_text chans))
+abbrev pub relay_action : RelayCommand → List Channel → Action
+relay_action RelayCommand.Close chans = BetweenScans (ClosesListed chans)
+relay_action RelayCommand.CloseQuery chans = AtOnce (TellsHardware (λ p. has_all p chans) (flags_text true chans))
+relay_action RelayCommand.Open chans = BetweenScans (OpensListed chans)
+relay_action RelayCommand.OpenQuery chans = AtOnce (TellsHardware (λ p. has_all p chans) (flags_text false chans))
+relay_action RelayCommand.CloseCheck chans = AtOnce (TellsText (check_text chans))
 
 -- what a query of a slot does
 abbrev pub slot_action : SlotQuery → ℕ → Action
@@ -303,16 +303,16 @@ continuous_action false = AtOnce (Changes (λ p. p))
 -- What a command does. The flag says whether its program message has answered before (SCPI-1999, 3, 18, 20, 21.8 and
 -- 24; IEEE 488.2, 10 and 11.2).
 abbrev pub action_of : Bool → Command → Action
-action_of available (Command.Plain plain) = plain_action plain
+action_of available (Command.NoData plain) = no_data_action plain
 action_of available (Command.Query query) = AtOnce (TellsText (query_text available query))
 action_of available (Command.LayerQuery query layer) =
     AtOnce (TellsText (λ p. layer_text query (layer_of p.settings.scan layer)))
 action_of available (Command.GroupQuery query group) = group_action query group
 action_of available (Command.SlotQuery query slot) = slot_action query slot
-action_of available (Command.ReadOut read) = AtOnce (ReadsOut (read_text read) (without_read read))
+action_of available (Command.DestructiveQuery read) = AtOnce (ReadsOut (read_text read) (without_read read))
 action_of available (Command.Signal layer) = AtOnce (Triggers (Signal layer) (ignored_at layer))
 action_of available (Command.Continuous on) = continuous_action on
-action_of available (Command.Channels ask chans) = channels_action ask chans
+action_of available (Command.Relays ask chans) = relay_action ask chans
 action_of available (Command.ListingCheck listing) = AtOnce (TellsListing listing)
 action_of available (Command.Set setting) = setting_action setting
 action_of available (Command.SetStatus setting) = AtOnce (SetsStatus (with_bits setting))

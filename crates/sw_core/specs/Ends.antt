@@ -11,7 +11,7 @@ use Rattle.sw_verify.specs.Channels.{is_among}
 use Rattle.sw_verify.specs.Sound.{effect}
 use Rattle.sw_cage.specs.Accounts.{is_closed}
 use Rattle.sw_lex.specs.declared.command.Command.TheVariants as command
-use Rattle.sw_lex.specs.declared.command.Plain.TheVariants as plain
+use Rattle.sw_lex.specs.declared.command.NoData.TheVariants as plain
 use Rattle.sw_cage.specs.Cage.{ScanSeen}
 use Rattle.sw_core.specs.declared.ask.Sid.{Sid}
 use Rattle.sw_core.specs.declared.ask.SessionAsk.TheVariants as Ask
@@ -61,8 +61,8 @@ pub record IsFollowing (plan : Snapshot) (p : Panel) (at : ScanSeen) : Type 0 wh
 
 -- ABORt and *RST, and the eject of a card, done
 abbrev pub stops : AskSeen → AnswerSeen → Bool
-stops (AskSession (Ask.Unit sid (command.Plain plain.Abort) available)) (SaysSession (Done None) work) = true
-stops (AskSession (Ask.Unit sid (command.Plain plain.Reset) available)) (SaysSession (Done None) work) = true
+stops (AskSession (Ask.Unit sid (command.NoData plain.Abort) available)) (SaysSession (Done None) work) = true
+stops (AskSession (Ask.Unit sid (command.NoData plain.Reset) available)) (SaysSession (Done None) work) = true
 stops (AskEject slot) (SaysEjected card) = true
 stops ask answer = false
 

@@ -14,9 +14,9 @@ use Rattle.sw_cage.specs.Change.{any_failed}
 use Rattle.sw_cage.specs.Takes.{TakesReturn}
 use Rattle.sw_lex.specs.declared.command.Command.{Command}
 use Rattle.sw_lex.specs.declared.command.Command.TheVariants as command
-use Rattle.sw_lex.specs.declared.command.Plain.TheVariants as plain
+use Rattle.sw_lex.specs.declared.command.NoData.TheVariants as plain
 use Rattle.sw_lex.specs.declared.command.PlainQuery.TheVariants as query
-use Rattle.sw_lex.specs.declared.command.Channels.TheVariants as list
+use Rattle.sw_lex.specs.declared.command.RelayCommand.TheVariants as list
 use Rattle.sw_core.specs.declared.ask.Sid.{Sid}
 use Rattle.sw_core.specs.declared.ask.SessionAsk.TheVariants as Ask
 use Rattle.sw_core.specs.declared.ask.SessionAnswer.TheVariants.{Done, Refused}
@@ -141,11 +141,11 @@ IsDoneFor p unit available failed q = (sid : Sid)
 pub record RelaysObey : Type 0 where
   -- after a ROUTe:CLOSe that the mainframe does, every channel of its list is closed
   pub closes : (p q : Panel) (chans : List Channel) (available failed : Bool)
-      → IsDoneFor p (command.Channels list.Close chans) available failed q → (c : Channel) → is_among chans c ≡ true
+      → IsDoneFor p (command.Relays list.Close chans) available failed q → (c : Channel) → is_among chans c ≡ true
       → is_closed q.cage.cards c ≡ true
   -- after a ROUTe:OPEN that the mainframe does, every channel of its list is open
   pub opens : (p q : Panel) (chans : List Channel) (available failed : Bool)
-      → IsDoneFor p (command.Channels list.Open chans) available failed q → (c : Channel) → is_among chans c ≡ true
+      → IsDoneFor p (command.Relays list.Open chans) available failed q → (c : Channel) → is_among chans c ≡ true
       → is_closed q.cage.cards c ≡ false
   -- a refusal for any other cause than a card's failure queues its error, ends its event, and does nothing else
   pub refused : (p q : Panel) (ask : AskSeen) (failed : Bool) (e : ScpiError) → e ≢ HardwareError
@@ -156,9 +156,9 @@ pub record RelaysObey : Type 0 where
       → Step p ask failed answer q → (failed ≡ true) × IsAfterCardFault p q
   -- after ABORt and *RST no scan runs and every relay is open
   pub aborted : (p q : Panel) (available failed : Bool)
-      → IsDoneFor p (command.Plain plain.Abort) available failed q → IsAtRest q
+      → IsDoneFor p (command.NoData plain.Abort) available failed q → IsAtRest q
   pub reset : (p q : Panel) (available failed : Bool)
-      → IsDoneFor p (command.Plain plain.Reset) available failed q → IsAtRest q
+      → IsDoneFor p (command.NoData plain.Reset) available failed q → IsAtRest q
   -- so too after a card is ejected while a scan runs
   pub stopped : (p q : Panel) (slot : ℕ) (failed : Bool) (card : Account) → is_running p ≡ true
       → Step p (AskEject slot) failed (SaysEjected card) q → IsAtRest q

@@ -13,7 +13,7 @@ use Rattle.sw_base.specs.declared.error.ScpiError.TheVariants.{HardwareMissing}
 use Rattle.sw_base.specs.declared.error.ScpiError.TheVariants.{SettingsConflict, DataCorruptOrStale, SystemError}
 use Rattle.sw_base.specs.declared.error.ScpiError.TheVariants.{HardwareError, OutOfMemory}
 use Rattle.sw_lex.specs.declared.command.Command.{Command}
-use Rattle.sw_lex.specs.declared.command.Plain.{Plain}
+use Rattle.sw_lex.specs.declared.command.NoData.{NoData}
 use Rattle.sw_verify.specs.declared.setup.Setup.{Setup}
 use Rattle.sw_verify.specs.Setup.{meter_of, course_of}
 use Rattle.sw_verify.specs.declared.snapshot.Snapshot.{Snapshot}
@@ -415,7 +415,7 @@ Acts p ask f answer q = ⊥
 
 -- the asks that still act when the mainframe can number no more events: those that end a scan, or bring a meter back
 abbrev pub acts_unnumbered : AskSeen → Bool
-acts_unnumbered (AskSession (Ask.Unit sid (Command.Plain Plain.Abort) available)) = true
+acts_unnumbered (AskSession (Ask.Unit sid (Command.NoData NoData.Abort) available)) = true
 acts_unnumbered (AskEject slot) = true
 acts_unnumbered (AskFinished done) = true
 acts_unnumbered ask = false

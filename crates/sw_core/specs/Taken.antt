@@ -4,7 +4,7 @@ use Rattle.sw_base.specs.Layout.{Channel}
 use Rattle.sw_base.specs.declared.error.ScpiError.TheVariants.{HardwareError}
 use Rattle.sw_base.specs.declared.reading.Reading.{Reading}
 use Rattle.sw_lex.specs.declared.command.Command.TheVariants as command
-use Rattle.sw_lex.specs.declared.command.Plain.TheVariants as plain
+use Rattle.sw_lex.specs.declared.command.NoData.TheVariants as plain
 use Rattle.sw_cage.specs.Accounts.{is_closed}
 use Rattle.sw_cage.specs.Outcome.{readings_with}
 use Rattle.sw_core.specs.declared.ask.SessionAsk.TheVariants as Ask
@@ -63,7 +63,7 @@ pub record IsUnmoved (p q : Panel) : Type 0 where
 -- The readings after an event. *RST drops them, and so does a scan that begins, one that a card's failure ends at once
 -- included; the return of a meter that the scan takes adds what it read; nothing else changes them.
 abbrev pub readings_after : AskSeen → AnswerSeen → List Reading → List Reading
-readings_after (AskSession (Ask.Unit sid (command.Plain plain.Reset) available)) (SaysSession (Done text) work) old = []
+readings_after (AskSession (Ask.Unit sid (command.NoData plain.Reset) available)) (SaysSession (Done text) work) old = []
 readings_after (AskSession (Ask.Start sid plan)) (SaysSession (Done text) work) old = []
 readings_after (AskSession (Ask.Start sid plan)) (SaysSession (Refused HardwareError) work) old = []
 readings_after (AskFinished done) (SaysTaken work) old = readings_with old done.outcome

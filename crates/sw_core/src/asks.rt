@@ -11,7 +11,7 @@ ghost use Rattle.sw_core.specs.declared.ask.SessionAsk.TheVariants.{Unit};
 
 use crate::ask::{Answer, Ask, SessionAnswer, SessionAsk, Sid};
 use sw_card::{Meter, Relay};
-use sw_lex::{Command, Plain};
+use sw_lex::{Command, NoData};
 
 /// The session that asks.
 pub fn asker(ask: &SessionAsk) -> Option<Sid>
@@ -74,7 +74,7 @@ pub fn awaits_end(command: &Command) -> bool
     ensures { result ≡ awaits_end command.now }
 {
     match command {
-        Command::Plain(Plain::OperationCompleteQuery | Plain::Wait) => true,
+        Command::NoData(NoData::OperationCompleteQuery | NoData::Wait) => true,
         Command::ScanReadings(_, _) => true,
         _ => false,
     }
@@ -96,7 +96,7 @@ pub fn is_abort(command: &Command) -> bool
         → result ≡ acts_unnumbered (AskSession (Unit sid command.now available)) }
 {
     match command {
-        Command::Plain(Plain::Abort) => true,
+        Command::NoData(NoData::Abort) => true,
         _ => false,
     }
 }

@@ -3,7 +3,7 @@
 ghost use Rattle.std.specs.Prelude.{◌≡◌, ◌&&◌, None, false};
 ghost use Rattle.sw_cage.specs.Change.{any_failed};
 ghost use Rattle.sw_lex.specs.declared.command.Command.{Command};
-ghost use Rattle.sw_core.specs.Action.{action_of, plain_action, channels_action, setting_action, awaits_end};
+ghost use Rattle.sw_core.specs.Action.{action_of, no_data_action, relay_action, setting_action, awaits_end};
 ghost use Rattle.sw_core.specs.Panel.{is_running};
 ghost use Rattle.sw_core.specs.declared.ask.SessionAsk.{SessionAsk};
 ghost use Rattle.sw_core.specs.Seen.{work_seen};
@@ -15,7 +15,7 @@ use std::alloc::Global;
 use sw_base::{Chan, ScpiError};
 use sw_cage::Happening;
 use sw_card::{Meter, Relay};
-use sw_lex::{Channels, Command, Plain, Setting, Time};
+use sw_lex::{Command, NoData, RelayCommand, Setting, Time};
 
 impl<R: Relay, M: Meter> Core<R, M> {
     /// Carries out a joined session's command, which nothing holds, or refuses it while a scan runs; `available` says
@@ -36,16 +36,16 @@ impl<R: Relay, M: Meter> Core<R, M> {
             (any_failed self.old.cage.cards self.new.cage.cards) result (work_seen work.new) self.new }
     {
         match command {
-            Command::Plain(plain) => self.plain(alloc, plain, work),
+            Command::NoData(plain) => self.plain(alloc, plain, work),
             Command::Signal(layer) => self.signal(layer, work),
             Command::Query(query) => self.tell(alloc, query, available),
             Command::LayerQuery(query, layer) => self.tell_layer(query, layer),
             Command::GroupQuery(query, group) => self.tell_group(query, group),
             Command::SlotQuery(query, slot) => self.tell_slot(alloc, query, slot),
-            Command::ReadOut(read) => self.read_out(alloc, read),
+            Command::DestructiveQuery(read) => self.read_out(alloc, read),
             Command::Continuous(true) => conflict(),
             Command::Continuous(false) => SessionAnswer::Done(None),
-            Command::Channels(ask, chans) => self.channels(alloc, ask, chans.as_slice()),
+            Command::Relays(ask, chans) => self.channels(alloc, ask, chans.as_slice()),
             Command::ListingCheck(listing) => self.check_listing(alloc, listing.as_slice()),
             Command::Set(setting) => self.set(setting),
             Command::SetStatus(setting) => self.set_status(setting),
@@ -57,42 +57,42 @@ impl<R: Relay, M: Meter> Core<R, M> {
     /// Carries a command without data out.
     #[tactic(auto, using(crate::proofs::CallsLemmas::failed_same))]
     #[inline(always)]
-    fn plain(&mut self, alloc: Global, plain: Plain, work: &mut Option<Work<M>>) -> SessionAnswer
-        requires unheld { awaits_end (Command.Plain plain) && is_running self.old ≡ false }
+    fn plain(&mut self, alloc: Global, plain: NoData, work: &mut Option<Work<M>>) -> SessionAnswer
+        requires unheld { awaits_end (Command.NoData plain) && is_running self.old ≡ false }
         requires empty { work.old ≡ None }
-        ensures { (ask : SessionAsk) → StepAction (plain_action plain) self.old ask
+        ensures { (ask : SessionAsk) → StepAction (no_data_action plain) self.old ask
             (any_failed self.old.cage.cards self.new.cage.cards) result (work_seen work.new) self.new }
     {
         match plain {
-            Plain::Reset => self.reset(),
-            Plain::ClearStatus => self.clear_status(),
-            Plain::OperationComplete => self.complete_operation(),
-            Plain::OperationCompleteQuery => self.number(1),
-            Plain::Wait => SessionAnswer::Done(None),
-            Plain::Trigger => self.trigger(Happening::Bus, ScpiError::TriggerIgnored, work),
-            Plain::Abort => self.abort(),
-            Plain::Initiate | Plain::Read => undefined(),
-            Plain::OpenAll if self.cage.is_running() => conflict(),
-            Plain::OpenAll => self.open_everything(),
-            Plain::Preset => self.preset(),
-            Plain::Fetch => self.fetch(alloc),
+            NoData::Reset => self.reset(),
+            NoData::ClearStatus => self.clear_status(),
+            NoData::OperationComplete => self.complete_operation(),
+            NoData::OperationCompleteQuery => self.number(1),
+            NoData::Wait => SessionAnswer::Done(None),
+            NoData::Trigger => self.trigger(Happening::Bus, ScpiError::TriggerIgnored, work),
+            NoData::Abort => self.abort(),
+            NoData::Initiate | NoData::Read => undefined(),
+            NoData::OpenAll if self.cage.is_running() => conflict(),
+            NoData::OpenAll => self.open_everything(),
+            NoData::Preset => self.preset(),
+            NoData::Fetch => self.fetch(alloc),
         }
     }
 
     /// Carries a command with a channel list out.
     #[tactic(auto, using(crate::proofs::CallsLemmas::failed_same))]
     #[inline(always)]
-    fn channels(&mut self, alloc: Global, ask: Channels, chans: &[Chan]) -> SessionAnswer
-        ensures { (ask_of : SessionAsk) → StepAction (channels_action ask chans.now) self.old ask_of
+    fn channels(&mut self, alloc: Global, ask: RelayCommand, chans: &[Chan]) -> SessionAnswer
+        ensures { (ask_of : SessionAsk) → StepAction (relay_action ask chans.now) self.old ask_of
             (any_failed self.old.cage.cards self.new.cage.cards) result None self.new }
     {
         match ask {
-            Channels::Close | Channels::Open if self.cage.is_running() => conflict(),
-            Channels::Close => self.close(chans),
-            Channels::CloseQuery => self.flags(alloc, true, chans),
-            Channels::CloseCheck => self.check_closing(alloc, chans),
-            Channels::Open => self.open(chans),
-            Channels::OpenQuery => self.flags(alloc, false, chans),
+            RelayCommand::Close | RelayCommand::Open if self.cage.is_running() => conflict(),
+            RelayCommand::Close => self.close(chans),
+            RelayCommand::CloseQuery => self.flags(alloc, true, chans),
+            RelayCommand::CloseCheck => self.check_closing(alloc, chans),
+            RelayCommand::Open => self.open(chans),
+            RelayCommand::OpenQuery => self.flags(alloc, false, chans),
         }
     }
 

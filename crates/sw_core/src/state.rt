@@ -30,7 +30,7 @@ use std::marker::Model;
 use sw_base::ScpiError;
 use sw_cage::{Cage, Finished, Happening};
 use sw_card::{Card, Meter, Relay};
-use sw_lex::{Command, Plain};
+use sw_lex::{Command, NoData};
 use sw_status::Status;
 use sw_verify::Setup;
 

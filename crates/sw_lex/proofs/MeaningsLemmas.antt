@@ -278,14 +278,14 @@ one_program k ds r s a b n m =
 one_decoded : (key : HeaderMeaning) (k : ℕ) (ds : List Datum) (r s : Result Command ScpiError) → DecodesCommand key k ds r → DecodesCommand key k ds s
     → r ≢ Err OutOfMemory
     → s ≢ Err OutOfMemory → r ≡ s
-one_decoded (keys.Plain ask) k ds r s a b n m = one_none (commands.Plain ask) ds r s a b
+one_decoded (keys.NoData ask) k ds r s a b n m = one_none (commands.NoData ask) ds r s a b
 one_decoded (keys.Query ask) k ds r s a b n m = one_none (commands.Query ask) ds r s a b
 one_decoded (keys.LayerQuery ask family) k ds r s a b n m = one_none (commands.LayerQuery ask (layer_numbered family k)) ds r s a b
 one_decoded (keys.GroupQuery ask group) k ds r s a b n m = one_none (commands.GroupQuery ask group) ds r s a b
-one_decoded (keys.ReadOut ask) k ds r s a b n m = one_none (commands.ReadOut ask) ds r s a b
+one_decoded (keys.DestructiveQuery ask) k ds r s a b n m = one_none (commands.DestructiveQuery ask) ds r s a b
 one_decoded (keys.Signal family) k ds r s a b n m = one_none (commands.Signal (layer_numbered family k)) ds r s a b
 one_decoded (keys.Macros ask) k ds r s a b n m = one_none (commands.Macros ask) ds r s a b
-one_decoded (keys.Channels ask) k ds r s a b n m = one_of_list Reads one_reading (λ list. commands.Channels ask list) ds r s a b n m
+one_decoded (keys.Relays ask) k ds r s a b n m = one_of_list Reads one_reading (λ list. commands.Relays ask list) ds r s a b n m
 one_decoded keys.Scan k ds r s a b n m = one_of_list ReadsPositions one_position_reading (λ list. commands.Set (settings.Scan list)) ds r s a b n m
 one_decoded keys.Program k ds r s a b n m = one_program k ds r s a b n m
 one_decoded keys.NoProgram k ds r s a b n m = one_none (commands.Set settings.NoProgram) ds r s a b

@@ -171,14 +171,14 @@ OfCheck (d ∷ ds) r = (read : Result (List ℕ) ScpiError) × WithBlock ReadsBl
 -- the command of a header with this number in it and these data, or its first refusal; or lack of memory where a list,
 -- a string or a block is read
 abbrev pub DecodesCommand : HeaderMeaning → ℕ → List Datum → Result Command ScpiError → Type 0
-DecodesCommand (keys.Plain ask) k ds r = WithNone (commands.Plain ask) ds r
+DecodesCommand (keys.NoData ask) k ds r = WithNone (commands.NoData ask) ds r
 DecodesCommand (keys.Query ask) k ds r = WithNone (commands.Query ask) ds r
 DecodesCommand (keys.LayerQuery ask family) k ds r = WithNone (commands.LayerQuery ask (layer_numbered family k)) ds r
 DecodesCommand (keys.GroupQuery ask group) k ds r = WithNone (commands.GroupQuery ask group) ds r
-DecodesCommand (keys.ReadOut ask) k ds r = WithNone (commands.ReadOut ask) ds r
+DecodesCommand (keys.DestructiveQuery ask) k ds r = WithNone (commands.DestructiveQuery ask) ds r
 DecodesCommand (keys.Signal family) k ds r = WithNone (commands.Signal (layer_numbered family k)) ds r
 DecodesCommand (keys.Macros ask) k ds r = WithNone (commands.Macros ask) ds r
-DecodesCommand (keys.Channels ask) k ds r = OfList Reads (λ list. commands.Channels ask list) ds r
+DecodesCommand (keys.Relays ask) k ds r = OfList Reads (λ list. commands.Relays ask list) ds r
 DecodesCommand keys.Scan k ds r = OfList ReadsPositions (λ list. commands.Set (settings.Scan list)) ds r
 DecodesCommand keys.Program k ds r =
     (read : Result Program ScpiError) × WithBlock ReadsProgram ds read

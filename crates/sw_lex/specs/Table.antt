@@ -3,13 +3,13 @@
 -- layer, or none.
 use Rattle.std.specs.Prelude.{ℕ, Bool, false, ◌==◌, ◌||◌, List, [], ◌∷◌, map, codes, if◌then◌else◌}
 use Rattle.sw_base.specs.declared.terms.StatusGroup.TheVariants as groups
-use Rattle.sw_lex.specs.declared.command.Plain.TheVariants as plain
+use Rattle.sw_lex.specs.declared.command.NoData.TheVariants as plain
 use Rattle.sw_lex.specs.declared.command.PlainQuery.TheVariants as queries
 use Rattle.sw_lex.specs.declared.command.LayerQuery.TheVariants as layer_queries
 use Rattle.sw_lex.specs.declared.command.GroupQuery.TheVariants as group_queries
 use Rattle.sw_lex.specs.declared.command.SlotQuery.TheVariants as slot_queries
 use Rattle.sw_lex.specs.declared.command.StatusRead.TheVariants as reads
-use Rattle.sw_lex.specs.declared.command.Channels.TheVariants as lists
+use Rattle.sw_lex.specs.declared.command.RelayCommand.TheVariants as lists
 use Rattle.sw_lex.specs.declared.command.Time.TheVariants as times
 use Rattle.sw_lex.specs.declared.command.AllMacros.TheVariants as all_macros
 use Rattle.sw_lex.specs.declared.table.HeaderMeaning.{HeaderMeaning}
@@ -22,16 +22,16 @@ use Rattle.sw_lex.specs.declared.table.Family.TheVariants as families
 unfoldable pub table : List (List ℕ × HeaderMeaning)
 table =
     (codes "*IDN?", keys.Query queries.Identify)
-    ∷ (codes "*RST", keys.Plain plain.Reset)
-    ∷ (codes "*OPC", keys.Plain plain.OperationComplete)
-    ∷ (codes "*OPC?", keys.Plain plain.OperationCompleteQuery)
-    ∷ (codes "*WAI", keys.Plain plain.Wait)
+    ∷ (codes "*RST", keys.NoData plain.Reset)
+    ∷ (codes "*OPC", keys.NoData plain.OperationComplete)
+    ∷ (codes "*OPC?", keys.NoData plain.OperationCompleteQuery)
+    ∷ (codes "*WAI", keys.NoData plain.Wait)
     ∷ (codes "*TST?", keys.Query queries.SelfTest)
-    ∷ (codes "*TRG", keys.Plain plain.Trigger)
-    ∷ (codes "*CLS", keys.Plain plain.ClearStatus)
+    ∷ (codes "*TRG", keys.NoData plain.Trigger)
+    ∷ (codes "*CLS", keys.NoData plain.ClearStatus)
     ∷ (codes "*ESE", keys.Numeric wholes.EventEnable)
     ∷ (codes "*ESE?", keys.Query queries.EventEnable)
-    ∷ (codes "*ESR?", keys.ReadOut reads.EventStatus)
+    ∷ (codes "*ESR?", keys.DestructiveQuery reads.EventStatus)
     ∷ (codes "*SRE", keys.Numeric wholes.ServiceEnable)
     ∷ (codes "*SRE?", keys.Query queries.ServiceEnable)
     ∷ (codes "*STB?", keys.Query queries.StatusByte)
@@ -42,7 +42,7 @@ table =
     ∷ (codes "*PMC", keys.Macros all_macros.Purge)
     ∷ (codes "*EMC", keys.EnableMacros)
     ∷ (codes "*EMC?", keys.Macros all_macros.EnableQuery)
-    ∷ (codes "ABORt", keys.Plain plain.Abort)
+    ∷ (codes "ABORt", keys.NoData plain.Abort)
     ∷ (codes "ARM[:LAYer#]:COUNt", keys.Numeric (wholes.Count families.Arm))
     ∷ (codes "ARM[:LAYer#]:COUNt?", keys.LayerQuery layer_queries.Count families.Arm)
     ∷ (codes "ARM[:LAYer#]:SOURce", keys.Source families.Arm)
@@ -52,7 +52,7 @@ table =
     ∷ (codes "ARM[:LAYer#]:TIMer", keys.Time times.Timer families.Arm)
     ∷ (codes "ARM[:LAYer#]:TIMer?", keys.LayerQuery layer_queries.Timer families.Arm)
     ∷ (codes "ARM[:LAYer#]:SIGNal", keys.Signal families.Arm)
-    ∷ (codes "INITiate[:IMMediate]", keys.Plain plain.Initiate)
+    ∷ (codes "INITiate[:IMMediate]", keys.NoData plain.Initiate)
     ∷ (codes "INITiate:CONTinuous", keys.Switch switches.Continuous)
     ∷ (codes "INITiate:CONTinuous?", keys.Query queries.InitiateContinuous)
     ∷ (codes "TRIGger:COUNt", keys.Numeric (wholes.Count families.Trigger))
@@ -67,12 +67,12 @@ table =
     ∷ (codes "TRACe:POINts", keys.Numeric wholes.Points)
     ∷ (codes "TRACe:POINts?", keys.Query queries.Points)
     ∷ (codes "TRACe:POINts:ACTual?", keys.Query queries.ActualPoints)
-    ∷ (codes "ROUTe:CLOSe", keys.Channels lists.Close)
-    ∷ (codes "ROUTe:CLOSe?", keys.Channels lists.CloseQuery)
+    ∷ (codes "ROUTe:CLOSe", keys.Relays lists.Close)
+    ∷ (codes "ROUTe:CLOSe?", keys.Relays lists.CloseQuery)
     ∷ (codes "ROUTe:CLOSe:STATe?", keys.Query queries.CloseState)
-    ∷ (codes "ROUTe:OPEN", keys.Channels lists.Open)
-    ∷ (codes "ROUTe:OPEN?", keys.Channels lists.OpenQuery)
-    ∷ (codes "ROUTe:OPEN:ALL", keys.Plain plain.OpenAll)
+    ∷ (codes "ROUTe:OPEN", keys.Relays lists.Open)
+    ∷ (codes "ROUTe:OPEN?", keys.Relays lists.OpenQuery)
+    ∷ (codes "ROUTe:OPEN:ALL", keys.NoData plain.OpenAll)
     ∷ (codes "ROUTe:CHANnel:DELay", keys.Time times.Settling families.Trigger)
     ∷ (codes "ROUTe:CHANnel:DELay?", keys.Query queries.Settling)
     ∷ (codes "ROUTe:SCAN", keys.Scan)
@@ -84,7 +84,7 @@ table =
     ∷ (codes "ROUTe:SCAN:PROGram:STATe", keys.Switch switches.Programmed)
     ∷ (codes "ROUTe:SCAN:PROGram:STATe?", keys.Query queries.Programmed)
     ∷ (codes "ROUTe:SCAN:PROGram:DELete", keys.NoProgram)
-    ∷ (codes "STATus:OPERation[:EVENt]?", keys.ReadOut (reads.GroupEvent groups.Operation))
+    ∷ (codes "STATus:OPERation[:EVENt]?", keys.DestructiveQuery (reads.GroupEvent groups.Operation))
     ∷ (codes "STATus:OPERation:CONDition?", keys.GroupQuery group_queries.Condition groups.Operation)
     ∷ (codes "STATus:OPERation:ENABle", keys.Numeric (wholes.Enable groups.Operation))
     ∷ (codes "STATus:OPERation:ENABle?", keys.GroupQuery group_queries.Enable groups.Operation)
@@ -92,7 +92,7 @@ table =
     ∷ (codes "STATus:OPERation:PTRansition?", keys.GroupQuery group_queries.PositiveTransition groups.Operation)
     ∷ (codes "STATus:OPERation:NTRansition", keys.Numeric (wholes.NegativeTransition groups.Operation))
     ∷ (codes "STATus:OPERation:NTRansition?", keys.GroupQuery group_queries.NegativeTransition groups.Operation)
-    ∷ (codes "STATus:QUEStionable[:EVENt]?", keys.ReadOut (reads.GroupEvent groups.Questionable))
+    ∷ (codes "STATus:QUEStionable[:EVENt]?", keys.DestructiveQuery (reads.GroupEvent groups.Questionable))
     ∷ (codes "STATus:QUEStionable:CONDition?", keys.GroupQuery group_queries.Condition groups.Questionable)
     ∷ (codes "STATus:QUEStionable:ENABle", keys.Numeric (wholes.Enable groups.Questionable))
     ∷ (codes "STATus:QUEStionable:ENABle?", keys.GroupQuery group_queries.Enable groups.Questionable)
@@ -100,9 +100,9 @@ table =
     ∷ (codes "STATus:QUEStionable:PTRansition?", keys.GroupQuery group_queries.PositiveTransition groups.Questionable)
     ∷ (codes "STATus:QUEStionable:NTRansition", keys.Numeric (wholes.NegativeTransition groups.Questionable))
     ∷ (codes "STATus:QUEStionable:NTRansition?", keys.GroupQuery group_queries.NegativeTransition groups.Questionable)
-    ∷ (codes "STATus:PRESet", keys.Plain plain.Preset)
-    ∷ (codes "SYSTem:ERRor[:NEXT]?", keys.ReadOut reads.NextError)
-    ∷ (codes "SYSTem:ERRor:ALL?", keys.ReadOut reads.AllErrors)
+    ∷ (codes "STATus:PRESet", keys.NoData plain.Preset)
+    ∷ (codes "SYSTem:ERRor[:NEXT]?", keys.DestructiveQuery reads.NextError)
+    ∷ (codes "SYSTem:ERRor:ALL?", keys.DestructiveQuery reads.AllErrors)
     ∷ (codes "SYSTem:ERRor:COUNt?", keys.Query queries.ErrorCount)
     ∷ (codes "SYSTem:HELP:HEADers?", keys.Query queries.Headers)
     ∷ (codes "SYSTem:VERSion?", keys.Query queries.Version)
@@ -111,9 +111,9 @@ table =
     ∷ (codes "SYSTem:CTYPe:STATe?", keys.Numeric (wholes.Slot slot_queries.State))
     ∷ (codes "DIAGnostic:SCAN:BOUNd?", keys.Query queries.Bound)
     ∷ (codes "DIAGnostic:SCAN:CHECk?", keys.ScanCheck)
-    ∷ (codes "DIAGnostic:CLOSe:CHECk?", keys.Channels lists.CloseCheck)
-    ∷ (codes "FETCh?", keys.Plain plain.Fetch)
-    ∷ (codes "READ?", keys.Plain plain.Read)
+    ∷ (codes "DIAGnostic:CLOSe:CHECk?", keys.Relays lists.CloseCheck)
+    ∷ (codes "FETCh?", keys.NoData plain.Fetch)
+    ∷ (codes "READ?", keys.NoData plain.Read)
     ∷ []
 
 -- ---- what is written there

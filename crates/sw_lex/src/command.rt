@@ -11,7 +11,7 @@ use sw_verify::ScanProgram;
 #[derive(Debug, Drop)]
 pub enum Command {
     /// A command without data.
-    Plain(Plain),
+    NoData(NoData),
     /// A query that changes nothing.
     Query(PlainQuery),
     /// A query of a trigger layer.
@@ -21,13 +21,13 @@ pub enum Command {
     /// A query of a slot, 1 to `SLOTS`.
     SlotQuery(SlotQuery, u8),
     /// A query that takes its answer out of the status.
-    ReadOut(StatusRead),
+    DestructiveQuery(StatusRead),
     /// `ARM[:LAYer]:SIGNal`, `TRIGger:SIGNal`
     Signal(LayerName),
     /// `INITiate:CONTinuous`: ON or OFF, or a number that is 0 for off.
     Continuous(bool),
     /// A command with these channels, in this order.
-    Channels(Channels, Sequence<Chan>),
+    Relays(RelayCommand, Sequence<Chan>),
     /// `DIAGnostic:SCAN:CHECk?` with a block: the bytes of a listing.
     ListingCheck(Sequence<u8>),
     /// A setting of scans.
@@ -45,7 +45,7 @@ pub enum Command {
 
 /// The commands without data.
 #[derive(Clone, Copy, Debug, PartialEq, Eq)]
-pub enum Plain {
+pub enum NoData {
     /// `*RST`
     Reset,
     /// `*CLS`
@@ -167,7 +167,7 @@ pub enum StatusRead {
 
 /// The commands with a channel list.
 #[derive(Clone, Copy, Debug, PartialEq, Eq)]
-pub enum Channels {
+pub enum RelayCommand {
     /// `ROUTe:CLOSe`
     Close,
     /// `ROUTe:CLOSe?`

@@ -4,7 +4,7 @@ ghost use Rattle.std.specs.Prelude.{true};
 ghost use Rattle.std.specs.Char.{to_ascii_uppercase};
 ghost use Rattle.sw_lex.specs.Parts.{IsPart};
 
-use crate::command::{AllMacros, Plain, PlainQuery, StatusRead};
+use crate::command::{AllMacros, NoData, PlainQuery, StatusRead};
 use crate::mnemonics::{
     STAR_CLS, STAR_DMC, STAR_EMC, STAR_ESE, STAR_ESR, STAR_GMC, STAR_IDN, STAR_LMC, STAR_OPC,
     STAR_PMC, STAR_RMC, STAR_RST, STAR_SRE, STAR_STB, STAR_TRG, STAR_TST, STAR_WAI,
@@ -25,7 +25,7 @@ static COMMON_R: HeadersByLetter = HeadersByLetter {
     commands: &[
         Subsystem {
             first: STAR_RST,
-            rows: &[Command(&[], HeaderMeaning::Plain(Plain::Reset))],
+            rows: &[Command(&[], HeaderMeaning::NoData(NoData::Reset))],
         },
         Subsystem {
             first: STAR_RMC,
@@ -38,18 +38,18 @@ static COMMON_R: HeadersByLetter = HeadersByLetter {
 static COMMON_O: HeadersByLetter = HeadersByLetter {
     commands: &[Subsystem {
         first: STAR_OPC,
-        rows: &[Command(&[], HeaderMeaning::Plain(Plain::OperationComplete))],
+        rows: &[Command(&[], HeaderMeaning::NoData(NoData::OperationComplete))],
     }],
     queries: &[Subsystem {
         first: STAR_OPC,
-        rows: &[Query(&[], HeaderMeaning::Plain(Plain::OperationCompleteQuery))],
+        rows: &[Query(&[], HeaderMeaning::NoData(NoData::OperationCompleteQuery))],
     }],
 };
 
 static COMMON_W: HeadersByLetter = HeadersByLetter {
     commands: &[Subsystem {
         first: STAR_WAI,
-        rows: &[Command(&[], HeaderMeaning::Plain(Plain::Wait))],
+        rows: &[Command(&[], HeaderMeaning::NoData(NoData::Wait))],
     }],
     queries: &[],
 };
@@ -57,7 +57,7 @@ static COMMON_W: HeadersByLetter = HeadersByLetter {
 static COMMON_T: HeadersByLetter = HeadersByLetter {
     commands: &[Subsystem {
         first: STAR_TRG,
-        rows: &[Command(&[], HeaderMeaning::Plain(Plain::Trigger))],
+        rows: &[Command(&[], HeaderMeaning::NoData(NoData::Trigger))],
     }],
     queries: &[Subsystem {
         first: STAR_TST,
@@ -68,7 +68,7 @@ static COMMON_T: HeadersByLetter = HeadersByLetter {
 static COMMON_C: HeadersByLetter = HeadersByLetter {
     commands: &[Subsystem {
         first: STAR_CLS,
-        rows: &[Command(&[], HeaderMeaning::Plain(Plain::ClearStatus))],
+        rows: &[Command(&[], HeaderMeaning::NoData(NoData::ClearStatus))],
     }],
     queries: &[],
 };
@@ -91,7 +91,10 @@ static COMMON_E: HeadersByLetter = HeadersByLetter {
         },
         Subsystem {
             first: STAR_ESR,
-            rows: &[Query(&[], HeaderMeaning::ReadOut(StatusRead::EventStatus))],
+            rows: &[Query(
+                &[],
+                HeaderMeaning::DestructiveQuery(StatusRead::EventStatus),
+            )],
         },
         Subsystem {
             first: STAR_EMC,

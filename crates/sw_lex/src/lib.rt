@@ -33,8 +33,8 @@ mod values;
 
 pub use block::block_of;
 pub use command::{
-    AllMacros, Channels, Command, Definition, GroupQuery, LayerQuery, MacroCommand, Plain,
-    PlainQuery, Setting, SlotQuery, StatusRead, StatusSetting, Time,
+    AllMacros, Command, Definition, GroupQuery, LayerQuery, MacroCommand, NoData, PlainQuery,
+    RelayCommand, Setting, SlotQuery, StatusRead, StatusSetting, Time,
 };
 pub use elements::ElementKind;
 pub use headers::one_command;

@@ -21,7 +21,7 @@ ghost use Rattle.sw_lex.specs.Values.{on_ok, ReadsQuantity, ReadsString, whole_o
 ghost use Rattle.sw_lex.specs.Values.{source_meant};
 
 use crate::choice::layer_of;
-use crate::command::{Channels, Command, Definition, MacroCommand, PlainQuery, Setting, Time};
+use crate::command::{Command, Definition, MacroCommand, PlainQuery, RelayCommand, Setting, Time};
 use crate::headers::find_words;
 use crate::owned::{body, content};
 use crate::path::Path;
@@ -240,10 +240,14 @@ fn of_macro(alloc: Global, elements: &[Element<'_>]) -> Result<Command, ScpiErro
 
 /// A command with a channel list.
 #[inline(never)]
-fn of_channels(alloc: Global, ask: Channels, elements: &[Element<'_>]) -> Result<Command, ScpiError>
-    ensures { (k : ℕ) → DecodesCommand (HeaderMeaning.Channels ask) k (data_of elements.now) result }
+fn of_channels(
+    alloc: Global,
+    ask: RelayCommand,
+    elements: &[Element<'_>],
+) -> Result<Command, ScpiError>
+    ensures { (k : ℕ) → DecodesCommand (HeaderMeaning.Relays ask) k (data_of elements.now) result }
 {
-    Ok(Command::Channels(ask, one_list(alloc, elements)?))
+    Ok(Command::Relays(ask, one_list(alloc, elements)?))
 }
 
 /// `ROUTe:SCAN`
@@ -331,16 +335,16 @@ fn decode(
     ensures { DecodesCommand key number (data_of elements.now) result }
 {
     match key {
-        HeaderMeaning::Plain(ask) => plain(Command::Plain(ask), elements),
+        HeaderMeaning::NoData(ask) => plain(Command::NoData(ask), elements),
         HeaderMeaning::Query(ask) => plain(Command::Query(ask), elements),
         HeaderMeaning::LayerQuery(ask, family) => {
             plain(Command::LayerQuery(ask, layer_of(family, number)), elements)
         }
         HeaderMeaning::GroupQuery(ask, group) => plain(Command::GroupQuery(ask, group), elements),
-        HeaderMeaning::ReadOut(ask) => plain(Command::ReadOut(ask), elements),
+        HeaderMeaning::DestructiveQuery(ask) => plain(Command::DestructiveQuery(ask), elements),
         HeaderMeaning::Signal(family) => plain(Command::Signal(layer_of(family, number)), elements),
         HeaderMeaning::Macros(ask) => plain(Command::Macros(ask), elements),
-        HeaderMeaning::Channels(ask) => of_channels(alloc, ask, elements),
+        HeaderMeaning::Relays(ask) => of_channels(alloc, ask, elements),
         HeaderMeaning::Scan => of_scan(alloc, elements),
         HeaderMeaning::Program => of_program(alloc, elements),
         HeaderMeaning::NoProgram => plain(Command::Set(Setting::NoProgram), elements),

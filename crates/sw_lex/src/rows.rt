@@ -7,7 +7,7 @@ ghost use Rattle.sw_lex.specs.Rows.{row_nodes, key_of_row};
 ghost use Rattle.sw_lex.specs.Parts.{IsPart};
 
 use crate::command::{
-    Channels, GroupQuery, LayerQuery, Plain, PlainQuery, SlotQuery, StatusRead, Time,
+    GroupQuery, LayerQuery, NoData, PlainQuery, RelayCommand, SlotQuery, StatusRead, Time,
 };
 use crate::mnemonics::{
     ABORT, ACTUAL, ALL, ARM, BOUND, CARD_TYPE, CHANNEL, CHECK, CLOSE, CONDITION, CONTINUOUS, COUNT,
@@ -87,7 +87,7 @@ static PATHS_A: HeadersByLetter = HeadersByLetter {
     commands: &[
         Subsystem {
             first: ABORT,
-            rows: &[Command(&[], HeaderMeaning::Plain(Plain::Abort))],
+            rows: &[Command(&[], HeaderMeaning::NoData(NoData::Abort))],
         },
         Subsystem {
             first: ARM,
@@ -136,7 +136,7 @@ static PATHS_I: HeadersByLetter = HeadersByLetter {
     commands: &[Subsystem {
         first: INITIATE,
         rows: &[
-            Command(&[May(IMMEDIATE)], HeaderMeaning::Plain(Plain::Initiate)),
+            Command(&[May(IMMEDIATE)], HeaderMeaning::NoData(NoData::Initiate)),
             Command(
                 &[Must(CONTINUOUS)],
                 HeaderMeaning::Switch(Switch::Continuous),
@@ -211,11 +211,11 @@ static PATHS_R: HeadersByLetter = HeadersByLetter {
     commands: &[Subsystem {
         first: ROUTE,
         rows: &[
-            Command(&[Must(CLOSE)], HeaderMeaning::Channels(Channels::Close)),
-            Command(&[Must(OPEN)], HeaderMeaning::Channels(Channels::Open)),
+            Command(&[Must(CLOSE)], HeaderMeaning::Relays(RelayCommand::Close)),
+            Command(&[Must(OPEN)], HeaderMeaning::Relays(RelayCommand::Open)),
             Command(
                 &[Must(OPEN), Must(ALL)],
-                HeaderMeaning::Plain(Plain::OpenAll),
+                HeaderMeaning::NoData(NoData::OpenAll),
             ),
             Command(
                 &[Must(CHANNEL), Must(DELAY)],
@@ -246,13 +246,16 @@ static PATHS_R: HeadersByLetter = HeadersByLetter {
             rows: &[
                 Query(
                     &[Must(CLOSE)],
-                    HeaderMeaning::Channels(Channels::CloseQuery),
+                    HeaderMeaning::Relays(RelayCommand::CloseQuery),
                 ),
                 Query(
                     &[Must(CLOSE), Must(STATE)],
                     HeaderMeaning::Query(PlainQuery::CloseState),
                 ),
-                Query(&[Must(OPEN)], HeaderMeaning::Channels(Channels::OpenQuery)),
+                Query(
+                    &[Must(OPEN)],
+                    HeaderMeaning::Relays(RelayCommand::OpenQuery),
+                ),
                 Query(
                     &[Must(CHANNEL), Must(DELAY)],
                     HeaderMeaning::Query(PlainQuery::Settling),
@@ -274,7 +277,7 @@ static PATHS_R: HeadersByLetter = HeadersByLetter {
         },
         Subsystem {
             first: READ,
-            rows: &[Query(&[], HeaderMeaning::Plain(Plain::Read))],
+            rows: &[Query(&[], HeaderMeaning::NoData(NoData::Read))],
         },
     ],
 };
@@ -307,7 +310,7 @@ static PATHS_S: HeadersByLetter = HeadersByLetter {
                 &[Must(QUESTIONABLE), Must(NTRANSITION)],
                 HeaderMeaning::Numeric(Numeric::NegativeTransition(Questionable)),
             ),
-            Command(&[Must(PRESET)], HeaderMeaning::Plain(Plain::Preset)),
+            Command(&[Must(PRESET)], HeaderMeaning::NoData(NoData::Preset)),
         ],
     }],
     queries: &[
@@ -316,7 +319,7 @@ static PATHS_S: HeadersByLetter = HeadersByLetter {
             rows: &[
                 Query(
                     &[Must(OPERATION), May(EVENT)],
-                    HeaderMeaning::ReadOut(StatusRead::GroupEvent(Operation)),
+                    HeaderMeaning::DestructiveQuery(StatusRead::GroupEvent(Operation)),
                 ),
                 Query(
                     &[Must(OPERATION), Must(CONDITION)],
@@ -336,7 +339,7 @@ static PATHS_S: HeadersByLetter = HeadersByLetter {
                 ),
                 Query(
                     &[Must(QUESTIONABLE), May(EVENT)],
-                    HeaderMeaning::ReadOut(StatusRead::GroupEvent(Questionable)),
+                    HeaderMeaning::DestructiveQuery(StatusRead::GroupEvent(Questionable)),
                 ),
                 Query(
                     &[Must(QUESTIONABLE), Must(CONDITION)],
@@ -361,11 +364,11 @@ static PATHS_S: HeadersByLetter = HeadersByLetter {
             rows: &[
                 Query(
                     &[Must(ERROR), May(NEXT)],
-                    HeaderMeaning::ReadOut(StatusRead::NextError),
+                    HeaderMeaning::DestructiveQuery(StatusRead::NextError),
                 ),
                 Query(
                     &[Must(ERROR), Must(ALL)],
-                    HeaderMeaning::ReadOut(StatusRead::AllErrors),
+                    HeaderMeaning::DestructiveQuery(StatusRead::AllErrors),
                 ),
                 Query(
                     &[Must(ERROR), Must(COUNT)],
@@ -405,7 +408,7 @@ static PATHS_D: HeadersByLetter = HeadersByLetter {
             Query(&[Must(SCAN), Must(CHECK)], HeaderMeaning::ScanCheck),
             Query(
                 &[Must(CLOSE), Must(CHECK)],
-                HeaderMeaning::Channels(Channels::CloseCheck),
+                HeaderMeaning::Relays(RelayCommand::CloseCheck),
             ),
         ],
     }],
@@ -415,7 +418,7 @@ static PATHS_F: HeadersByLetter = HeadersByLetter {
     commands: &[],
     queries: &[Subsystem {
         first: FETCH,
-        rows: &[Query(&[], HeaderMeaning::Plain(Plain::Fetch))],
+        rows: &[Query(&[], HeaderMeaning::NoData(NoData::Fetch))],
     }],
 };
 

@@ -1,7 +1,8 @@
 //! The commands' headers, as a table (SCPI-1999, volume 1, 6.2; IEEE 488.2, 10).
 
 use crate::command::{
-    AllMacros, Channels, GroupQuery, LayerQuery, Plain, PlainQuery, SlotQuery, StatusRead, Time,
+    AllMacros, GroupQuery, LayerQuery, NoData, PlainQuery, RelayCommand, SlotQuery, StatusRead,
+    Time,
 };
 use sw_base::StatusGroup;
 
@@ -9,7 +10,7 @@ use sw_base::StatusGroup;
 #[derive(Clone, Copy, Debug, PartialEq, Eq)]
 pub enum HeaderMeaning {
     /// A command without data.
-    Plain(Plain),
+    NoData(NoData),
     /// A query that changes nothing.
     Query(PlainQuery),
     /// A query of a trigger layer.
@@ -17,13 +18,13 @@ pub enum HeaderMeaning {
     /// A query of a status group that changes nothing.
     GroupQuery(GroupQuery, StatusGroup),
     /// A query that takes its answer out of the status.
-    ReadOut(StatusRead),
+    DestructiveQuery(StatusRead),
     /// A layer's signal.
     Signal(Family),
     /// A command of all macros.
     Macros(AllMacros),
     /// A command with a channel list.
-    Channels(Channels),
+    Relays(RelayCommand),
     /// `ROUTe:SCAN`
     Scan,
     /// `ROUTe:SCAN:PROGram[:DEFine]`

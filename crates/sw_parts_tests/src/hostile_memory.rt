@@ -8,7 +8,7 @@ use sw_base::{Chan, LayerName, ScpiError};
 use sw_channel::{print_list, print_positions, read_list, read_positions};
 use sw_code::{Code, ListFault, compile, print_listing, read_listing};
 use sw_hislip::{Decoder, Kind, LockReply, Locks, Message, WireFault, encode};
-use sw_lex::{Channels, Command, Elements, Path, next_unit, resolve};
+use sw_lex::{Command, Elements, Path, RelayCommand, next_unit, resolve};
 use sw_macro::Macros;
 use sw_status::Status;
 use sw_trigger::Settings;
@@ -97,7 +97,7 @@ fn lists_are_right_or_lack_memory(rt: HostRuntime) {
 /// Whether a command closes these channels.
 fn closes(command: &Command, wanted: &[Chan]) -> bool {
     match command {
-        Command::Channels(Channels::Close, list) => list.as_slice() == wanted,
+        Command::Relays(RelayCommand::Close, list) => list.as_slice() == wanted,
         _ => false,
     }
 }

@@ -4,8 +4,8 @@ use std::alloc::Global;
 use std::test::Fail;
 use sw_base::{Chan, LayerName, ScpiError, Source, StatusGroup};
 use sw_lex::{
-    Channels, Command, Element, Elements, LayerQuery, MacroCommand, Path, Plain, PlainQuery,
-    RawUnit, Setting, SlotQuery, StatusSetting, Time, next_unit, resolve,
+    Command, Element, Elements, LayerQuery, MacroCommand, NoData, Path, PlainQuery, RawUnit,
+    RelayCommand, Setting, SlotQuery, StatusSetting, Time, next_unit, resolve,
 };
 
 /// What the first unit of a text gives below this path.
@@ -54,11 +54,11 @@ fn parts(command: &Command) -> (&str, &[Chan]) {
             "listing check?",
             &[],
         ),
-        Command::Plain(Plain::Read) => ("read?", &[]),
-        Command::Channels(Channels::Close, list) => ("close", list.as_slice()),
-        Command::Channels(Channels::CloseQuery, list) => ("close?", list.as_slice()),
-        Command::Channels(Channels::CloseCheck, list) => ("check?", list.as_slice()),
-        Command::Channels(Channels::Open, list) => ("open", list.as_slice()),
+        Command::NoData(NoData::Read) => ("read?", &[]),
+        Command::Relays(RelayCommand::Close, list) => ("close", list.as_slice()),
+        Command::Relays(RelayCommand::CloseQuery, list) => ("close?", list.as_slice()),
+        Command::Relays(RelayCommand::CloseCheck, list) => ("check?", list.as_slice()),
+        Command::Relays(RelayCommand::Open, list) => ("open", list.as_slice()),
         _ => ("another", &[]),
     }
 }

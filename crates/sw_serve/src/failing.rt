@@ -11,20 +11,20 @@ use sw_card::{Board, CardFault, Meter, Relay};
 
 /// A card that reports to a log where a call of it fails.
 #[derive(Drop)]
-pub struct Telling<C: Board, L: Log + Drop> {
+pub struct LoggedCard<C: Board, L: Log + Drop> {
     card: C,
     slot: u8,
     log: L,
 }
 
-impl<C: Board, L: Log + Drop> Telling<C, L> {
+impl<C: Board, L: Log + Drop> LoggedCard<C, L> {
     /// Reports that a call has failed.
     fn tell(&self) {
         self.log.tell(Remark::CardFailed(self.slot));
     }
 }
 
-impl<C: Board, L: Log + Drop> Board for Telling<C, L> {
+impl<C: Board, L: Log + Drop> Board for LoggedCard<C, L> {
     ghost the_serial = { λ t. C.the_serial t.card };
 
     ghost failed = { λ t. C.failed t.card };
@@ -38,7 +38,7 @@ impl<C: Board, L: Log + Drop> Board for Telling<C, L> {
     }
 }
 
-impl<R: Relay, L: Log + Drop> Relay for Telling<R, L> {
+impl<R: Relay, L: Log + Drop> Relay for LoggedCard<R, L> {
     ghost groups = { λ t. R.groups t.card };
 
     ghost closed = { λ t. R.closed t.card };
@@ -82,7 +82,7 @@ impl<R: Relay, L: Log + Drop> Relay for Telling<R, L> {
     }
 }
 
-impl<M: Meter, L: Log + Drop> Meter for Telling<M, L> {
+impl<M: Meter, L: Log + Drop> Meter for LoggedCard<M, L> {
     ghost last_reading = { λ t. M.last_reading t.card };
 
     fn measure(&mut self) -> Result<Reading, CardFault> {
@@ -103,7 +103,7 @@ fn with_log<R: Relay, M: Meter, L: Log + Drop>(
     own: OwnCard<R, M>,
     slot: u8,
     log: L,
-) -> OwnCard<Telling<R, L>, Telling<M, L>>
+) -> OwnCard<LoggedCard<R, L>, LoggedCard<M, L>>
     ensures { own_seen (relay_seen (λ t. R.the_serial t.card) (λ t. R.failed t.card) (λ t. R.groups t.card)
         (λ t. R.closed t.card)) (meter_seen (λ t. M.the_serial t.card) (λ t. M.failed t.card)
         (λ t. M.last_reading t.card)) result ≡ own_seen
@@ -111,8 +111,8 @@ fn with_log<R: Relay, M: Meter, L: Log + Drop>(
         (meter_seen M.the_serial M.failed M.last_reading) own }
 {
     match own {
-        OwnCard::Relays(card) => OwnCard::Relays(Telling { card, slot, log }),
-        OwnCard::Measures(card) => OwnCard::Measures(Telling { card, slot, log }),
+        OwnCard::Relays(card) => OwnCard::Relays(LoggedCard { card, slot, log }),
+        OwnCard::Measures(card) => OwnCard::Measures(LoggedCard { card, slot, log }),
     }
 }
 
@@ -121,7 +121,7 @@ pub fn tell_failures<R: Relay, M: Meter, L: Log + Copy + Drop>(
     alloc: Global,
     cards: Vec<SlotCard<R, M>>,
     log: L,
-) -> Result<Vec<SlotCard<Telling<R, L>, Telling<M, L>>>, AllocError>
+) -> Result<Vec<SlotCard<LoggedCard<R, L>, LoggedCard<M, L>>>, AllocError>
     ensures { IfOk result (λ told. cards_seen (relay_seen (λ t. R.the_serial t.card) (λ t. R.failed t.card)
         (λ t. R.groups t.card) (λ t. R.closed t.card)) (meter_seen (λ t. M.the_serial t.card)
         (λ t. M.failed t.card) (λ t. M.last_reading t.card)) told.items ≡ cards_seen
@@ -137,10 +137,10 @@ pub fn tell_failures<R: Relay, M: Meter, L: Log + Copy + Drop>(
 
 /// The cards so far and one more, which reports to a log, unless there was no memory.
 fn with_card<R: Relay, M: Meter, L: Log + Drop>(
-    told: Result<Vec<SlotCard<Telling<R, L>, Telling<M, L>>>, AllocError>,
+    told: Result<Vec<SlotCard<LoggedCard<R, L>, LoggedCard<M, L>>>, AllocError>,
     placed: SlotCard<R, M>,
     log: L,
-) -> Result<Vec<SlotCard<Telling<R, L>, Telling<M, L>>>, AllocError>
+) -> Result<Vec<SlotCard<LoggedCard<R, L>, LoggedCard<M, L>>>, AllocError>
     ensures { (cards : List (SlotCard R M)) → IfOk told (λ told. cards_seen (relay_seen (λ t. R.the_serial t.card)
         (λ t. R.failed t.card) (λ t. R.groups t.card) (λ t. R.closed t.card)) (meter_seen (λ t. M.the_serial t.card)
         (λ t. M.failed t.card) (λ t. M.last_reading t.card)) told.items ≡ cards_seen

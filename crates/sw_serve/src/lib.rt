@@ -15,24 +15,24 @@
 #![tactic(auto)]
 
 mod desk_pool;
-mod door;
 mod failing;
 mod log;
+mod logged_connection;
 mod orders;
 mod port;
 mod serving;
 mod single;
 mod slot_card;
+mod tcp_port;
 mod thread_pool;
 mod unfit;
-mod visitor;
 
-pub use door::Door;
-pub use failing::{Telling, tell_failures};
+pub use failing::{LoggedCard, tell_failures};
 pub use log::{Log, Parting, Remark, Silent};
+pub use logged_connection::{LoggedConnection, LoggedReader};
 pub use port::{Arrival, Port};
 pub use serving::{serve_cards, serve_over};
 pub use single::desk_for_one;
 pub use slot_card::{OwnCard, SlotCard, fit};
+pub use tcp_port::TcpPort;
 pub use unfit::FitError;
-pub use visitor::{Heard, Visitor};

@@ -1,7 +1,7 @@
 //! What connections come from.
 
 use crate::log::Log;
-use crate::visitor::Visitor;
+use crate::logged_connection::LoggedConnection;
 
 /// How a wait for a connection ends.
 #[derive(Drop)]
@@ -31,7 +31,7 @@ pub trait Port {
     ghost ended: { Self → Type 0 };
 
     /// Waits for the next connection, an abort, or the end.
-    fn accept(&mut self) -> Arrival<Visitor<Self::Book>>
+    fn accept(&mut self) -> Arrival<LoggedConnection<Self::Book>>
         requires { taken self.old + 1 < 2 ^ 32 }
         ensures taken { taken self.new ≡ count_after result (taken self.old) }
         ensures ended { result ≡ Arrival.Ended → ended self.new };

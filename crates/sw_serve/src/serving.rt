@@ -15,11 +15,11 @@ ghost use Rattle.sw_workers.specs.Work.{DeskPasses, desk_seen};
 
 use crate::desk_pool::DeskPool;
 use crate::log::Log;
+use crate::logged_connection::{LoggedConnection, LoggedReader};
 use crate::port::{Arrival, Port};
 use crate::slot_card::{SlotCard, fit};
 use crate::thread_pool::ThreadPool;
 use crate::unfit::FitError;
-use crate::visitor::{Heard, Visitor};
 use crossbeam_channel::Receiver;
 use std::alloc::{AllocError, Global};
 use std::marker::Brand;
@@ -303,7 +303,7 @@ fn serve_each<
         join_ended(&rt, &**pool, sessions);
         match arrival {
             Arrival::Connected(connection) => {
-                welcome(rt, alloc, pool, sessions, number, connection);
+                serve_connection(rt, alloc, pool, sessions, number, connection);
             }
             Arrival::Failed | Arrival::Aborts => {}
             Arrival::Ended => return true,
@@ -320,7 +320,7 @@ fn next_arrival<
     G: Gate + Drop,
     W: Wait + Clock + Copy + Drop,
     P: Port,
->(rt: &W, pool: &DeskPool<H, R, M, G, W>, port: &mut P) -> Arrival<Visitor<P::Book>>
+>(rt: &W, pool: &DeskPool<H, R, M, G, W>, port: &mut P) -> Arrival<LoggedConnection<P::Book>>
     requires { P.taken port.old + 1 < 2 ^ 32 }
     ensures taken { P.taken port.new ≡ count_after result (P.taken port.old) }
     ensures ended { result ≡ Arrival.Ended → P.ended port.new }
@@ -360,7 +360,7 @@ fn end_sessions<
 }
 
 /// Starts a thread for a connection. Where there is no memory or no thread, it closes the connection.
-fn welcome<
+fn serve_connection<
     H: Mainframe + Send + Sync + 'static,
     R: Relay + Send + 'static,
     M: Meter + Send + 'static,
@@ -373,7 +373,7 @@ fn welcome<
     pool: &Arc<DeskPool<H, R, M, G, W>, Global>,
     sessions: &mut ThreadPool<Left<H, R, M, G, W>>,
     number: u32,
-    connection: Visitor<L>,
+    connection: LoggedConnection<L>,
 ) {
     let Ok(theirs) = Arc::try_clone(pool) else {
         drop(connection);
@@ -426,7 +426,9 @@ fn desk_of<
     G: Gate + Drop,
     W: Wait + Clock + Copy + Drop,
     L: Log + Drop,
->(served: Option<Ended<SharedDesk<H, R, M, G, W>, Heard<L>, Line, Line>>) -> Left<H, R, M, G, W> {
+>(
+    served: Option<Ended<SharedDesk<H, R, M, G, W>, LoggedReader<L>, Line, Line>>,
+) -> Left<H, R, M, G, W> {
     let Ended {
         desk,
         reader,

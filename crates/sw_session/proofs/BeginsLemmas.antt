@@ -3,8 +3,8 @@ use Rattle.std.proofs.Common.{◌≡◌, Bool, true, false, List, Ok, Err, inl, 
 use Rattle.sw_base.specs.declared.error.ScpiError.{ScpiError}
 use Rattle.sw_base.specs.declared.error.ScpiError.TheVariants.{OutOfMemory}
 use Rattle.sw_lex.specs.declared.command.Command.{Command}
-use Rattle.sw_lex.specs.declared.command.Plain.{Plain}
-use Rattle.sw_lex.specs.declared.command.Channels.{Channels}
+use Rattle.sw_lex.specs.declared.command.NoData.{NoData}
+use Rattle.sw_lex.specs.declared.command.RelayCommand.{RelayCommand}
 use Rattle.sw_base.specs.declared.terms.StatusGroup.{StatusGroup}
 use Rattle.sw_lex.specs.declared.command.GroupQuery.{GroupQuery}
 use Rattle.sw_lex.specs.declared.command.SlotQuery.{SlotQuery}
@@ -45,13 +45,13 @@ module _ {D : Type 0} (passes : D → Entry → D → Type 0) (sid : Sid) where
   asked : (command : Command) (answered : Bool) (macros : Table) (t : List Entry) (final : SessionAnswer) (rest : List Entry)
       → is_own command ≡ false → Settles sid 0 (Ask.Unit sid command answered) t final rest
       → Begins sid answered (Ok command) macros t (begun_with final macros rest)
-  asked (Command.Plain Plain.Initiate) answered macros t final rest own s = absurd (cc (own))
-  asked (Command.Plain Plain.Read) answered macros t final rest own s = absurd (cc (own))
-  asked (Command.Plain Plain.Reset) answered macros t final rest own s = absurd (cc (own))
+  asked (Command.NoData NoData.Initiate) answered macros t final rest own s = absurd (cc (own))
+  asked (Command.NoData NoData.Read) answered macros t final rest own s = absurd (cc (own))
+  asked (Command.NoData NoData.Reset) answered macros t final rest own s = absurd (cc (own))
   asked (Command.Macros ask) answered macros t final rest own s = absurd (cc (own))
   asked (Command.Macro ask) answered macros t final rest own s = absurd (cc (own))
-  asked (Command.ReadOut read) answered macros t final rest own s = (inl s, refl)
-  asked (Command.Channels Channels.Close chans) answered macros t final rest own s = (s, refl)
+  asked (Command.DestructiveQuery read) answered macros t final rest own s = (inl s, refl)
+  asked (Command.Relays RelayCommand.Close chans) answered macros t final rest own s = (s, refl)
   asked (Command.GroupQuery GroupQuery.Condition StatusGroup.Operation) answered macros t final rest own s = (s, refl)
   asked (Command.GroupQuery GroupQuery.Condition StatusGroup.Questionable) answered macros t final rest own s = (s, refl)
   asked (Command.GroupQuery GroupQuery.Enable group) answered macros t final rest own s = (s, refl)
@@ -76,7 +76,7 @@ module _ {D : Type 0} (passes : D → Entry → D → Type 0) (sid : Sid) where
   unread : (command : Command) (answered : Bool) (macros : Table) (t : List Entry) (final : SessionAnswer) (rest : List Entry)
       → reads_out command ≡ true → Queues sid OutOfMemory t final rest
       → Begins sid answered (Ok command) macros t (begun_with final macros rest)
-  unread (Command.ReadOut read) answered macros t final rest is q = (inr q, refl)
+  unread (Command.DestructiveQuery read) answered macros t final rest is q = (inr q, refl)
   unread command answered macros t final rest is q = absurd (cc (is))
 
   pub begins-unread : (d0 d1 : D) (command : Command) (answered : Bool) (final : SessionAnswer) (macros : Table)
@@ -99,26 +99,26 @@ module _ {D : Type 0} (passes : D → Entry → D → Type 0) (sid : Sid) where
   -- a scan was to start
   pub begins-scan : (d0 d1 : D) (answered : Bool) (final : SessionAnswer) (macros : Table)
       → Led passes d0 d1 (λ t rest. StartsScan sid t final rest)
-      → Led passes d0 d1 (λ t rest. Begins sid answered (Ok (Command.Plain Plain.Initiate)) macros t (begun_with final macros rest))
+      → Led passes d0 d1 (λ t rest. Begins sid answered (Ok (Command.NoData NoData.Initiate)) macros t (begun_with final macros rest))
   begins-scan d0 d1 answered final macros p =
       led-so passes d0 d1 (λ t rest. StartsScan sid t final rest) (λ t rest.
-      Begins sid answered (Ok (Command.Plain Plain.Initiate)) macros t (begun_with final macros rest)) p (λ t rest k. (k, refl))
+      Begins sid answered (Ok (Command.NoData NoData.Initiate)) macros t (begun_with final macros rest)) p (λ t rest k. (k, refl))
 
   -- a scan was to be read
   pub begins-read : (d0 d1 : D) (answered : Bool) (final : SessionAnswer) (macros : Table)
       → Led passes d0 d1 (λ t rest. ReadsScan sid answered t final rest)
-      → Led passes d0 d1 (λ t rest. Begins sid answered (Ok (Command.Plain Plain.Read)) macros t (begun_with final macros rest))
+      → Led passes d0 d1 (λ t rest. Begins sid answered (Ok (Command.NoData NoData.Read)) macros t (begun_with final macros rest))
   begins-read d0 d1 answered final macros p =
       led-so passes d0 d1 (λ t rest. ReadsScan sid answered t final rest) (λ t rest.
-      Begins sid answered (Ok (Command.Plain Plain.Read)) macros t (begun_with final macros rest)) p (λ t rest k. (k, refl))
+      Begins sid answered (Ok (Command.NoData NoData.Read)) macros t (begun_with final macros rest)) p (λ t rest k. (k, refl))
 
   -- a reset was asked
   pub begins-reset : (d0 d1 : D) (answered : Bool) (final : SessionAnswer) (macros macros' : Table) → macros' ≡ table_reset final macros
-      → Led passes d0 d1 (λ t rest. Settles sid 0 (Ask.Unit sid (Command.Plain Plain.Reset) answered) t final rest)
-      → Led passes d0 d1 (λ t rest. Begins sid answered (Ok (Command.Plain Plain.Reset)) macros t (begun_with final macros' rest))
+      → Led passes d0 d1 (λ t rest. Settles sid 0 (Ask.Unit sid (Command.NoData NoData.Reset) answered) t final rest)
+      → Led passes d0 d1 (λ t rest. Begins sid answered (Ok (Command.NoData NoData.Reset)) macros t (begun_with final macros' rest))
   begins-reset d0 d1 answered final macros macros' is p =
-      led-so passes d0 d1 (λ t rest. Settles sid 0 (Ask.Unit sid (Command.Plain Plain.Reset) answered) t final rest) (λ t rest.
-      Begins sid answered (Ok (Command.Plain Plain.Reset)) macros t (begun_with final macros' rest)) p (λ t rest k. (k, is))
+      led-so passes d0 d1 (λ t rest. Settles sid 0 (Ask.Unit sid (Command.NoData NoData.Reset) answered) t final rest) (λ t rest.
+      Begins sid answered (Ok (Command.NoData NoData.Reset)) macros t (begun_with final macros' rest)) p (λ t rest k. (k, is))
 
   -- an error was queued
   pub begins-queued : (d0 d1 : D) (e : ScpiError) (answered : Bool) (final : SessionAnswer) (macros macros' : Table) → macros' ≡ macros

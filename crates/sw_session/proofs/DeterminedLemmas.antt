@@ -6,7 +6,7 @@ use Rattle.sw_base.specs.Limits.{most_bytes}
 use Rattle.sw_base.specs.declared.error.ScpiError.{ScpiError}
 use Rattle.sw_base.specs.declared.error.ScpiError.TheVariants.{SettingsConflict, OutOfMemory, InputBufferOverrun}
 use Rattle.sw_lex.specs.declared.command.Command.{Command}
-use Rattle.sw_lex.specs.declared.command.Plain.{Plain}
+use Rattle.sw_lex.specs.declared.command.NoData.{NoData}
 use Rattle.sw_lex.specs.Unit.{UnitSeen, IsUnit, IsRefusedUnit, IsBlank}
 use Rattle.sw_lex.specs.Meaning.{Nodes, Resolves}
 use Rattle.sw_verify.specs.declared.snapshot.Snapshot.{Snapshot as Taken}
@@ -241,7 +241,7 @@ reads-same b b' sid answered t t' r r' f f' (told, started, mid, later, p, k, l)
 
 scan-same : {T : Type 0} (b b' : T) (command : Command) (sid : Sid) (answered : Bool) (t t' r r' : List Entry) (f f' : SessionAnswer)
     → BeginsScan command sid answered t f r → BeginsScan command sid answered t' f' r' → (f ≡ f' → Rests b b' r r') → Rests b b' t t'
-scan-same b b' (Command.Plain Plain.Read) sid answered t t' r r' f f' p q next = reads-same b b' sid answered t t' r r' f f' p q next
+scan-same b b' (Command.NoData NoData.Read) sid answered t t' r r' f f' p q next = reads-same b b' sid answered t t' r r' f f' p q next
 scan-same b b' command sid answered t t' r r' f f' p q next = starts-same b b' sid t t' r r' f f' p q next
 
 reports-same : {T : Type 0} (b b' : T) (sid : Sid) (told : Told) (t t' r r' : List Entry) (f f' : SessionAnswer) → Reports sid told t f r

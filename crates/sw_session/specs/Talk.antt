@@ -9,7 +9,7 @@ use Rattle.sw_base.specs.declared.error.ScpiError.TheVariants.{SettingsConflict,
 use Rattle.sw_base.specs.Errors.{number_of}
 use Rattle.std.specs.Io.BufRead.{strip_last}
 use Rattle.sw_lex.specs.declared.command.Command.{Command}
-use Rattle.sw_lex.specs.declared.command.Plain.{Plain}
+use Rattle.sw_lex.specs.declared.command.NoData.{NoData}
 use Rattle.sw_lex.specs.Unit.{UnitSeen}
 use Rattle.sw_lex.specs.Meaning.{Nodes, Resolves}
 use Rattle.sw_macro.specs.Table.{Table}
@@ -126,7 +126,7 @@ ReadsScan sid answered trace final rest =
 
 -- a command that begins a scan: READ?, else INITiate
 abbrev pub BeginsScan : Command → Sid → Bool → List Entry → SessionAnswer → List Entry → Type 0
-BeginsScan (Command.Plain Plain.Read) sid answered trace final rest = ReadsScan sid answered trace final rest
+BeginsScan (Command.NoData NoData.Read) sid answered trace final rest = ReadsScan sid answered trace final rest
 BeginsScan command sid answered trace final rest = StartsScan sid trace final rest
 
 abbrev pub is_done : SessionAnswer → Bool
@@ -159,16 +159,16 @@ effect_of (AfterScan effect) = effect
 -- whether a session carries a command out by itself: one of macros, INITiate, READ?, or *RST, which switches macros
 -- off
 abbrev pub is_own : Command → Bool
-is_own (Command.Plain Plain.Initiate) = true
-is_own (Command.Plain Plain.Read) = true
-is_own (Command.Plain Plain.Reset) = true
+is_own (Command.NoData NoData.Initiate) = true
+is_own (Command.NoData NoData.Read) = true
+is_own (Command.NoData NoData.Reset) = true
 is_own (Command.Macros ask) = true
 is_own (Command.Macro ask) = true
 is_own command = false
 
 -- whether a query clears what it reads out of the status (IEEE 488.2, 11.5.1.2; SCPI-1999, 20 and 21.8)
 abbrev pub reads_out : Command → Bool
-reads_out (Command.ReadOut read) = true
+reads_out (Command.DestructiveQuery read) = true
 reads_out command = false
 
 -- A command by what it does: a macro command changes the macros and asks nothing else, INITiate and READ? start a scan,

@@ -15,7 +15,7 @@ use std::alloc::Global;
 use std::mem::replace;
 use sw_base::ScpiError;
 use sw_core::{SessionAnswer, SessionAsk, Sid};
-use sw_lex::{Command, Plain};
+use sw_lex::{Command, NoData};
 use sw_macro::Macros;
 use sw_verify::Plan;
 
@@ -46,7 +46,7 @@ pub fn is_own(command: &Command) -> bool
     ensures { result ≡ is_own command.now }
 {
     match command {
-        Command::Plain(Plain::Initiate | Plain::Read | Plain::Reset) => true,
+        Command::NoData(NoData::Initiate | NoData::Read | NoData::Reset) => true,
         Command::Macros(_) | Command::Macro(_) => true,
         _ => false,
     }
@@ -56,7 +56,7 @@ pub fn is_own(command: &Command) -> bool
 pub fn reads_out(command: &Command) -> bool
     ensures { result ≡ reads_out command.now }
 {
-    matches!(command, Command::ReadOut(_))
+    matches!(command, Command::DestructiveQuery(_))
 }
 
 /// Carries out a command: begins a scan, reads it or not; resets; acts on macros; and asks for any other. `answered`
@@ -74,7 +74,7 @@ pub fn carry_out<D: Desk>(
         Begins sid answered (Ok command) macros.old t (begun_with result macros.new rest)) }
 {
     match command {
-        Command::Plain(plain) => carry_plain(desk, sid, alloc, macros, plain, answered),
+        Command::NoData(plain) => carry_plain(desk, sid, alloc, macros, plain, answered),
         Command::Macros(ask) => {
             let outcome = act_on_all(alloc, macros, ask);
             report(desk, sid, outcome)
@@ -93,17 +93,17 @@ fn carry_plain<D: Desk>(
     sid: Sid,
     alloc: Global,
     macros: &mut Macros,
-    plain: Plain,
+    plain: NoData,
     answered: bool,
 ) -> SessionAnswer
     ensures { Led D.passes desk.old desk.new (λ t rest.
-        Begins sid answered (Ok (Command.Plain plain)) macros.old t (begun_with result macros.new rest)) }
+        Begins sid answered (Ok (Command.NoData plain)) macros.old t (begun_with result macros.new rest)) }
 {
     match plain {
-        Plain::Initiate => initiate(desk, sid, alloc),
-        Plain::Read => read(desk, sid, alloc, answered),
-        Plain::Reset => reset(desk, sid, macros, answered),
-        plain => ask(desk, sid, Command::Plain(plain), answered),
+        NoData::Initiate => initiate(desk, sid, alloc),
+        NoData::Read => read(desk, sid, alloc, answered),
+        NoData::Reset => reset(desk, sid, macros, answered),
+        plain => ask(desk, sid, Command::NoData(plain), answered),
     }
 }
 
@@ -133,10 +133,10 @@ fn report<D: Desk>(desk: &mut D, sid: Sid, outcome: Outcome) -> SessionAnswer
 #[inline(never)]
 fn reset<D: Desk>(desk: &mut D, sid: Sid, macros: &mut Macros, answered: bool) -> SessionAnswer
     ensures asked { Led D.passes desk.old desk.new (λ t rest.
-        Settles sid 0 (SessionAsk.Unit sid (Command.Plain Plain.Reset) answered) t result rest) }
+        Settles sid 0 (SessionAsk.Unit sid (Command.NoData NoData.Reset) answered) t result rest) }
     ensures switched { macros.new ≡ table_reset result macros.old }
 {
-    let ask = SessionAsk::Unit(sid, Command::Plain(Plain::Reset), answered);
+    let ask = SessionAsk::Unit(sid, Command::NoData(NoData::Reset), answered);
     let answer = settle(desk, sid, ask);
     if is_done(&answer) {
         macros.enable(false);

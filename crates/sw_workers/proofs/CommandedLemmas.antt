@@ -13,8 +13,8 @@ use Rattle.sw_lex.specs.declared.command.Command.{Command}
 use Rattle.sw_base.specs.declared.terms.StatusGroup.{StatusGroup}
 use Rattle.sw_lex.specs.declared.command.GroupQuery.{GroupQuery}
 use Rattle.sw_lex.specs.declared.command.SlotQuery.{SlotQuery}
-use Rattle.sw_lex.specs.declared.command.Plain.{Plain}
-use Rattle.sw_lex.specs.declared.command.Channels.{Channels}
+use Rattle.sw_lex.specs.declared.command.NoData.{NoData}
+use Rattle.sw_lex.specs.declared.command.RelayCommand.{RelayCommand}
 use Rattle.sw_verify.specs.declared.setup.Setup.{Setup}
 use Rattle.sw_status.specs.StatusModel.{StatusSeen}
 use Rattle.sw_cage.specs.TakenSeen.{TakenSeen, SaysIgnored, SaysWaits, SaysPause, SaysJob, SaysEnded, SaysFault}
@@ -64,18 +64,18 @@ LeavesAction ends p (BetweenScans effect) = LeavesEffect ends p effect
 LeavesAction ends p (AfterScan effect) = LeavesEffect ends p effect
 
 leaves_command : (p : Panel) (available : Bool) (command : Command) → LeavesAction (may_end command) p (action_of available command)
-leaves_command p available (Command.Plain Plain.Reset) = refl
-leaves_command p available (Command.Plain Plain.ClearStatus) = record { seats = refl; scan = λ n i. i }
-leaves_command p available (Command.Plain Plain.OperationComplete) = record { seats = refl; scan = λ n i. i }
-leaves_command p available (Command.Plain Plain.OperationCompleteQuery) = tt
-leaves_command p available (Command.Plain Plain.Wait) = record { seats = refl; scan = λ n i. i }
-leaves_command p available (Command.Plain Plain.Trigger) = refl
-leaves_command p available (Command.Plain Plain.Abort) = leaves_ending p (aborted p) refl refl
-leaves_command p available (Command.Plain Plain.Initiate) = tt
-leaves_command p available (Command.Plain Plain.OpenAll) = record { seats = refl; scan = λ n i. i }
-leaves_command p available (Command.Plain Plain.Preset) = tt
-leaves_command p available (Command.Plain Plain.Fetch) = tt
-leaves_command p available (Command.Plain Plain.Read) = tt
+leaves_command p available (Command.NoData NoData.Reset) = refl
+leaves_command p available (Command.NoData NoData.ClearStatus) = record { seats = refl; scan = λ n i. i }
+leaves_command p available (Command.NoData NoData.OperationComplete) = record { seats = refl; scan = λ n i. i }
+leaves_command p available (Command.NoData NoData.OperationCompleteQuery) = tt
+leaves_command p available (Command.NoData NoData.Wait) = record { seats = refl; scan = λ n i. i }
+leaves_command p available (Command.NoData NoData.Trigger) = refl
+leaves_command p available (Command.NoData NoData.Abort) = leaves_ending p (aborted p) refl refl
+leaves_command p available (Command.NoData NoData.Initiate) = tt
+leaves_command p available (Command.NoData NoData.OpenAll) = record { seats = refl; scan = λ n i. i }
+leaves_command p available (Command.NoData NoData.Preset) = tt
+leaves_command p available (Command.NoData NoData.Fetch) = tt
+leaves_command p available (Command.NoData NoData.Read) = tt
 leaves_command p available (Command.Query query) = tt
 leaves_command p available (Command.LayerQuery query layer) = tt
 leaves_command p available (Command.GroupQuery GroupQuery.Condition StatusGroup.Operation) = tt
@@ -86,15 +86,15 @@ leaves_command p available (Command.GroupQuery GroupQuery.NegativeTransition gro
 leaves_command p available (Command.SlotQuery SlotQuery.Kind slot) = tt
 leaves_command p available (Command.SlotQuery SlotQuery.Groups slot) = tt
 leaves_command p available (Command.SlotQuery SlotQuery.State slot) = tt
-leaves_command p available (Command.ReadOut read) = tt
+leaves_command p available (Command.DestructiveQuery read) = tt
 leaves_command p available (Command.Signal layer) = refl
 leaves_command p available (Command.Continuous true) = tt
 leaves_command p available (Command.Continuous false) = record { seats = refl; scan = λ n i. i }
-leaves_command p available (Command.Channels Channels.Close chans) = tt
-leaves_command p available (Command.Channels Channels.CloseQuery chans) = tt
-leaves_command p available (Command.Channels Channels.CloseCheck chans) = tt
-leaves_command p available (Command.Channels Channels.Open chans) = tt
-leaves_command p available (Command.Channels Channels.OpenQuery chans) = tt
+leaves_command p available (Command.Relays RelayCommand.Close chans) = tt
+leaves_command p available (Command.Relays RelayCommand.CloseQuery chans) = tt
+leaves_command p available (Command.Relays RelayCommand.CloseCheck chans) = tt
+leaves_command p available (Command.Relays RelayCommand.Open chans) = tt
+leaves_command p available (Command.Relays RelayCommand.OpenQuery chans) = tt
 leaves_command p available (Command.ListingCheck listing) = tt
 leaves_command p available (Command.Set setting) = tt
 leaves_command p available (Command.SetStatus setting) = tt

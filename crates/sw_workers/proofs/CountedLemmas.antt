@@ -14,8 +14,8 @@ use Rattle.sw_lex.specs.declared.command.Command.{Command}
 use Rattle.sw_base.specs.declared.terms.StatusGroup.{StatusGroup}
 use Rattle.sw_lex.specs.declared.command.GroupQuery.{GroupQuery}
 use Rattle.sw_lex.specs.declared.command.SlotQuery.{SlotQuery}
-use Rattle.sw_lex.specs.declared.command.Plain.{Plain}
-use Rattle.sw_lex.specs.declared.command.Channels.{Channels}
+use Rattle.sw_lex.specs.declared.command.NoData.{NoData}
+use Rattle.sw_lex.specs.declared.command.RelayCommand.{RelayCommand}
 use Rattle.sw_verify.specs.declared.setup.Setup.{Setup}
 use Rattle.sw_status.specs.StatusModel.{StatusSeen}
 use Rattle.sw_verify.specs.declared.snapshot.Snapshot.{Snapshot}
@@ -62,18 +62,18 @@ IsSameAction p (BetweenScans effect) = IsSameEffect p effect
 IsSameAction p (AfterScan effect) = IsSameEffect p effect
 
 same_command : (p : Panel) (available : Bool) (command : Command) → IsSameAction p (action_of available command)
-same_command p available (Command.Plain Plain.Reset) = tt
-same_command p available (Command.Plain Plain.ClearStatus) = refl
-same_command p available (Command.Plain Plain.OperationComplete) = refl
-same_command p available (Command.Plain Plain.OperationCompleteQuery) = tt
-same_command p available (Command.Plain Plain.Wait) = refl
-same_command p available (Command.Plain Plain.Trigger) = tt
-same_command p available (Command.Plain Plain.Abort) = refl
-same_command p available (Command.Plain Plain.Initiate) = tt
-same_command p available (Command.Plain Plain.OpenAll) = refl
-same_command p available (Command.Plain Plain.Preset) = tt
-same_command p available (Command.Plain Plain.Fetch) = tt
-same_command p available (Command.Plain Plain.Read) = tt
+same_command p available (Command.NoData NoData.Reset) = tt
+same_command p available (Command.NoData NoData.ClearStatus) = refl
+same_command p available (Command.NoData NoData.OperationComplete) = refl
+same_command p available (Command.NoData NoData.OperationCompleteQuery) = tt
+same_command p available (Command.NoData NoData.Wait) = refl
+same_command p available (Command.NoData NoData.Trigger) = tt
+same_command p available (Command.NoData NoData.Abort) = refl
+same_command p available (Command.NoData NoData.Initiate) = tt
+same_command p available (Command.NoData NoData.OpenAll) = refl
+same_command p available (Command.NoData NoData.Preset) = tt
+same_command p available (Command.NoData NoData.Fetch) = tt
+same_command p available (Command.NoData NoData.Read) = tt
 same_command p available (Command.Query query) = tt
 same_command p available (Command.LayerQuery query layer) = tt
 same_command p available (Command.GroupQuery GroupQuery.Condition StatusGroup.Operation) = tt
@@ -84,15 +84,15 @@ same_command p available (Command.GroupQuery GroupQuery.NegativeTransition group
 same_command p available (Command.SlotQuery SlotQuery.Kind slot) = tt
 same_command p available (Command.SlotQuery SlotQuery.Groups slot) = tt
 same_command p available (Command.SlotQuery SlotQuery.State slot) = tt
-same_command p available (Command.ReadOut read) = tt
+same_command p available (Command.DestructiveQuery read) = tt
 same_command p available (Command.Signal layer) = tt
 same_command p available (Command.Continuous true) = tt
 same_command p available (Command.Continuous false) = refl
-same_command p available (Command.Channels Channels.Close chans) = tt
-same_command p available (Command.Channels Channels.CloseQuery chans) = tt
-same_command p available (Command.Channels Channels.CloseCheck chans) = tt
-same_command p available (Command.Channels Channels.Open chans) = tt
-same_command p available (Command.Channels Channels.OpenQuery chans) = tt
+same_command p available (Command.Relays RelayCommand.Close chans) = tt
+same_command p available (Command.Relays RelayCommand.CloseQuery chans) = tt
+same_command p available (Command.Relays RelayCommand.CloseCheck chans) = tt
+same_command p available (Command.Relays RelayCommand.Open chans) = tt
+same_command p available (Command.Relays RelayCommand.OpenQuery chans) = tt
 same_command p available (Command.ListingCheck listing) = tt
 same_command p available (Command.Set setting) = tt
 same_command p available (Command.SetStatus setting) = tt

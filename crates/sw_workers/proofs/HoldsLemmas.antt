@@ -5,8 +5,8 @@ use Rattle.std.specs.Prelude.{decimal, MatchBool}
 use Rattle.sw_base.specs.declared.reading.Reading.{Reading}
 use Rattle.sw_base.specs.declared.error.ScpiError.{ScpiError}
 use Rattle.sw_base.specs.declared.error.ScpiError.TheVariants.{TriggerIgnored}
-use Rattle.sw_lex.specs.declared.command.Command.TheVariants.{Plain}
-use Rattle.sw_lex.specs.declared.command.Plain.TheVariants.{OperationCompleteQuery}
+use Rattle.sw_lex.specs.declared.command.Command.TheVariants.{NoData}
+use Rattle.sw_lex.specs.declared.command.NoData.TheVariants.{OperationCompleteQuery}
 use Rattle.sw_hislip.specs.LockTable.{LockTable, admits, is_wrong, grants}
 use Rattle.sw_cage.specs.TakenSeen.{TakenSeen, SaysIgnored, SaysWaits, SaysPause, SaysJob, SaysEnded, SaysFault}
 use Rattle.sw_core.specs.declared.ask.Sid.{Sid}
@@ -185,7 +185,7 @@ held_again p q k n w h =
 -- ---- *OPC?
 
 abbrev pub opc : Sid → SessionAsk
-opc sid = Ask.Unit sid (Plain OperationCompleteQuery) false
+opc sid = Ask.Unit sid (NoData OperationCompleteQuery) false
 
 -- a number is left, the session is joined and isn't cleared, and others' locks keep it out or a scan runs
 pub record Awaits (p : Panel) (sid : Sid) : Type 0 where

@@ -4,8 +4,8 @@ use Rattle.std.specs.Prelude.{◌≡◌, ℕ, Bool, true, false, List, [], ◌�
 use mathlib.Core.List.{IsPrefix}
 use Rattle.sw_status.specs.StatusModel.{summary_of}
 use Rattle.sw_core.specs.Panel.{Panel}
-use Rattle.sw_lex.specs.declared.command.Command.TheVariants.{Plain}
-use Rattle.sw_lex.specs.declared.command.Plain.TheVariants.{OperationCompleteQuery}
+use Rattle.sw_lex.specs.declared.command.Command.TheVariants.{NoData}
+use Rattle.sw_lex.specs.declared.command.NoData.TheVariants.{OperationCompleteQuery}
 use Rattle.sw_core.specs.declared.ask.Sid.{Sid}
 use Rattle.sw_core.specs.declared.ask.SessionAsk.TheVariants as Ask
 use Rattle.sw_core.specs.declared.ask.SessionAnswer.TheVariants.{Hold}
@@ -86,5 +86,5 @@ pub record InHistory : Type 0 where
 
 -- the mainframe holds the session's *OPC?
 abbrev pub AwaitsEnd : Panel → Sid → Type 0
-AwaitsEnd p sid = Step p (AskSession (Ask.Unit sid (Plain OperationCompleteQuery) false)) false
-    (SaysSession (Hold (Ask.Unit sid (Plain OperationCompleteQuery) false)) None) p
+AwaitsEnd p sid = Step p (AskSession (Ask.Unit sid (NoData OperationCompleteQuery) false)) false
+    (SaysSession (Hold (Ask.Unit sid (NoData OperationCompleteQuery) false)) None) p

@@ -2,7 +2,7 @@
 use Rattle.std.specs.Prelude.{◌≡◌, ◌↔◌, ◌==◌, ◌+◌, ◌&&◌, ◌||◌, ℕ, Bool, true, false, not, None, is_none, if◌then◌else◌}
 use Rattle.sw_lex.specs.declared.command.Command.{Command}
 use Rattle.sw_lex.specs.declared.command.Command.TheVariants as command
-use Rattle.sw_lex.specs.declared.command.Plain.TheVariants as plain
+use Rattle.sw_lex.specs.declared.command.NoData.TheVariants as plain
 use Rattle.sw_core.specs.declared.ask.SessionAsk.{SessionAsk}
 use Rattle.sw_core.specs.declared.ask.SessionAsk.TheVariants as Ask
 use Rattle.sw_core.specs.declared.ask.SessionAnswer.TheVariants.{Hold, Lock}
@@ -18,9 +18,9 @@ use Rattle.sw_workers.specs.Shares.{is_event}
 
 -- a command that may end the scan that runs: it stops the scan, or is a happening that the scan may take
 abbrev pub may_end : Command → Bool
-may_end (command.Plain plain.Abort) = true
-may_end (command.Plain plain.Reset) = true
-may_end (command.Plain plain.Trigger) = true
+may_end (command.NoData plain.Abort) = true
+may_end (command.NoData plain.Reset) = true
+may_end (command.NoData plain.Trigger) = true
 may_end (command.Signal layer) = true
 may_end unit = false
 

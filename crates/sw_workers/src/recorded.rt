@@ -24,7 +24,7 @@ use std::snapshot::Snapshot;
 use std::sync::Arc;
 use sw_card::{Meter, Relay};
 use sw_core::{Core, SessionAsk, Sid, runs_go_on};
-use sw_lex::{Command, Plain};
+use sw_lex::{Command, NoData};
 
 /// Which mainframe it is: its board, and the panel that it opened with.
 pub trait Recording: BoardName {
@@ -131,7 +131,7 @@ impl<B: Recording, R: Relay, M: Meter> Recorded<B, R, M> {
     pub fn awaits_end(&self, sid: Sid) -> bool
         ensures { (result ≡ true) ↔ AwaitsEnd self.now.panel sid }
     {
-        let query = SessionAsk::Unit(sid, Command::Plain(Plain::OperationCompleteQuery), false);
+        let query = SessionAsk::Unit(sid, Command::NoData(NoData::OperationCompleteQuery), false);
         self.core.holds(&query)
     }
 

@@ -7,7 +7,7 @@ ghost use Rattle.sw_workers.specs.Waking.{may_end, wakes, turn_after};
 use crate::event_kind::EventKind;
 use sw_card::{Meter, Relay};
 use sw_core::Sid;
-use sw_lex::{Command, Plain};
+use sw_lex::{Command, NoData};
 
 /// The causes of a hold that an ask may end.
 #[derive(Clone, Copy, Debug, PartialEq, Eq)]
@@ -27,15 +27,15 @@ pub fn may_end(command: &Command) -> bool
     ensures { result ≡ may_end command.now }
 {
     match command {
-        Command::Plain(Plain::Abort | Plain::Reset | Plain::Trigger) => true,
-        Command::Plain(Plain::ClearStatus | Plain::Initiate | Plain::Wait) => false,
-        Command::Plain(Plain::OperationComplete | Plain::OperationCompleteQuery) => false,
-        Command::Plain(Plain::OpenAll | Plain::Preset | Plain::Fetch | Plain::Read) => false,
+        Command::NoData(NoData::Abort | NoData::Reset | NoData::Trigger) => true,
+        Command::NoData(NoData::ClearStatus | NoData::Initiate | NoData::Wait) => false,
+        Command::NoData(NoData::OperationComplete | NoData::OperationCompleteQuery) => false,
+        Command::NoData(NoData::OpenAll | NoData::Preset | NoData::Fetch | NoData::Read) => false,
         Command::Signal(_) => true,
         Command::Query(_) | Command::LayerQuery(_, _) | Command::GroupQuery(_, _) => false,
         Command::SlotQuery(_, _) | Command::ListingCheck(_) => false,
-        Command::ReadOut(_) | Command::SetStatus(_) => false,
-        Command::Continuous(_) | Command::Channels(_, _) | Command::Set(_) => false,
+        Command::DestructiveQuery(_) | Command::SetStatus(_) => false,
+        Command::Continuous(_) | Command::Relays(_, _) | Command::Set(_) => false,
         Command::Macros(_) | Command::Macro(_) | Command::ScanReadings(_, _) => false,
     }
 }

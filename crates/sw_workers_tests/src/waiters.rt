@@ -11,7 +11,7 @@ use std::thread::Threads;
 use std::time::{Clock, Duration, Instant};
 use sw_core::{SessionAnswer, SessionAsk, Sid};
 use sw_kinds::SimSource;
-use sw_lex::{Command, Plain};
+use sw_lex::{Command, NoData};
 use sw_session::{Desk, Wake};
 use sw_workers::Open;
 
@@ -101,7 +101,7 @@ fn two_sessions_that_wait_go_on_together(rt: HostRuntime) {
 
 /// The ask that waits for the end of a scan, where the desk holds it.
 fn held<D: Desk>(desk: &mut D, sid: Sid) -> Option<SessionAsk> {
-    let query = Command::Plain(Plain::OperationCompleteQuery);
+    let query = Command::NoData(NoData::OperationCompleteQuery);
     match desk.ask(SessionAsk::Unit(sid, query, false)) {
         SessionAnswer::Hold(ask) => Some(ask),
         other => {

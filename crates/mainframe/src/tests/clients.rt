@@ -7,7 +7,7 @@ use std::net::{Net, Shutdown, SocketAddr, TcpListener, TcpStream};
 use std::sync::Wait;
 use std::thread::Threads;
 use std::time::Clock;
-use sw_serve::{Door, Silent};
+use sw_serve::{Silent, TcpPort};
 
 /// Whether `limit` connections are served on a listener, and the mainframe then closed down.
 pub fn serves<W: Threads + Wait + Clock + Copy + Drop + Send + Sync + 'static>(
@@ -16,8 +16,8 @@ pub fn serves<W: Threads + Wait + Clock + Copy + Drop + Send + Sync + 'static>(
     listener: &TcpListener,
     limit: u32,
 ) -> bool {
-    let mut door = Door::new(rt, alloc, listener, None::<TcpStream>, Silent);
-    serve_on(rt, alloc, &mut door, limit, Silent).is_ok()
+    let mut connections = TcpPort::new(rt, alloc, listener, None::<TcpStream>, Silent);
+    serve_on(rt, alloc, &mut connections, limit, Silent).is_ok()
 }
 
 /// A client with both connections of its session.

@@ -9,7 +9,7 @@ use std::sync::Wait;
 use std::test::Fail;
 use std::thread::{Threads, join};
 use std::time::{Clock, Instant};
-use sw_serve::{Door, Silent};
+use sw_serve::{Silent, TcpPort};
 
 /// Within how many milliseconds of its input's end a server ends.
 const END_MS: u128 = 2_000;
@@ -28,8 +28,8 @@ fn serves_until<W: Threads + Wait + Clock + Copy + Drop + Send + Sync + 'static>
     listener: &TcpListener,
     input: TcpStream,
 ) -> Option<Instant> {
-    let mut door = Door::new(rt, alloc, listener, Some(input), Silent);
-    if serve_on(rt, alloc, &mut door, u32::MAX, Silent).is_err() {
+    let mut connections = TcpPort::new(rt, alloc, listener, Some(input), Silent);
+    if serve_on(rt, alloc, &mut connections, u32::MAX, Silent).is_err() {
         return None;
     }
     Instant::now(&rt).ok()

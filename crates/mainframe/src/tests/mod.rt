@@ -2,12 +2,12 @@
 
 mod clients;
 mod command_line;
-mod doors;
 mod ending;
 mod listing;
 mod resting;
 mod rows;
 mod serving;
+mod streams;
 mod timing;
 mod vanishing;
 

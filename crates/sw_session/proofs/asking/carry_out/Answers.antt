@@ -24,8 +24,8 @@ returns-in-Macro g c =
     c.act_on_one-outcome.ensures)
     c.report-in-Macro.ensures
 
-pub returns-in-Plain : goal.returns-in-Plain
-returns-in-Plain g c = rw c.in-Plain.is c.carry_plain.ensures
+pub returns-in-NoData : goal.returns-in-NoData
+returns-in-NoData g c = rw c.in-NoData.is c.carry_plain.ensures
 
 pub returns-in_default : goal.returns-in_default
 returns-in_default g c = c.ask.ensures c.args.macros.now

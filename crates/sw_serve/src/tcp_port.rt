@@ -3,9 +3,9 @@
 ghost use Rattle.std.specs.Prelude.{◌≡◌, true, false};
 
 use crate::log::{Log, Remark};
+use crate::logged_connection::LoggedConnection;
 use crate::orders::Orders;
 use crate::port::{Arrival, Port};
-use crate::visitor::Visitor;
 use libc::net::{POLLIN, poll};
 use libc::types::pollfd;
 use std::alloc::Global;
@@ -17,13 +17,13 @@ use std::time::{Clock, Duration, Instant};
 use std::{mem, thread};
 use sw_workers::Tcp;
 
-/// How long a door rests after a connection that failed, in milliseconds.
+/// How long a port rests after a connection that failed, in milliseconds.
 const REST_MS: u64 = 10;
 
 /// For how many milliseconds after a remark on a failed connection it makes no other.
 const QUIET_MS: u128 = 1_000;
 
-/// What a door waits for.
+/// What a port waits for.
 enum Coming {
     Connection,
     /// A line `abort` on the input.
@@ -36,7 +36,12 @@ enum Coming {
 /// connection after that has ended or failed. A line `abort` on the input is an order; any other is ignored. The log
 /// has what comes and leaves.
 #[derive(Drop)]
-pub struct Door<'a, W: Wait + Clock + Copy + Drop, I: Read + AsRawFd + Drop, L: Log + Copy + Drop> {
+pub struct TcpPort<
+    'a,
+    W: Wait + Clock + Copy + Drop,
+    I: Read + AsRawFd + Drop,
+    L: Log + Copy + Drop,
+> {
     rt: W,
     alloc: Global,
     listener: &'a TcpListener,
@@ -54,17 +59,17 @@ pub struct Door<'a, W: Wait + Clock + Copy + Drop, I: Read + AsRawFd + Drop, L: 
     pub is_over: bool,
 }
 
-impl<'a, W: Wait + Clock + Copy + Drop, I: Read + AsRawFd + Drop, L: Log + Copy + Drop> Door<
+impl<'a, W: Wait + Clock + Copy + Drop, I: Read + AsRawFd + Drop, L: Log + Copy + Drop> TcpPort<
     'a,
     W,
     I,
     L,
 > {
-    /// A door to which no connection has come.
+    /// A port to which no connection has come.
     pub fn new(rt: W, alloc: Global, listener: &'a TcpListener, input: Option<I>, log: L) -> Self
         ensures { (result.taken ≡ 0) × (result.is_over ≡ false) }
     {
-        Door {
+        TcpPort {
             rt,
             alloc,
             listener,
@@ -98,7 +103,7 @@ impl<'a, W: Wait + Clock + Copy + Drop, I: Read + AsRawFd + Drop, L: Log + Copy 
     }
 
     /// The next connection. None where it fails.
-    fn next(&mut self) -> Option<Visitor<L>>
+    fn next(&mut self) -> Option<LoggedConnection<L>>
         ensures { self.new.taken ≡ self.old.taken }
     {
         let Ok((stream, from)) = self.listener.accept() else {
@@ -107,7 +112,7 @@ impl<'a, W: Wait + Clock + Copy + Drop, I: Read + AsRawFd + Drop, L: Log + Copy 
         };
         self.log.tell(Remark::Taken(self.taken, from));
         let connection = Tcp::new(self.alloc, stream).ok()?;
-        Some(Visitor {
+        Some(LoggedConnection {
             connection,
             log: self.log,
             number: self.taken,
@@ -119,14 +124,14 @@ impl<
     W: Wait + Clock + Copy + Drop,
     I: Read + AsRawFd + Drop,
     L: Log + Copy + Drop + Send + 'static,
-> Port for Door<'_, W, I, L> {
+> Port for TcpPort<'_, W, I, L> {
     type Book = L;
 
     ghost taken = { λ d. d.taken };
 
     ghost ended = { λ d. d.is_over ≡ true };
 
-    fn accept(&mut self) -> Arrival<Visitor<L>> {
+    fn accept(&mut self) -> Arrival<LoggedConnection<L>> {
         if self.is_aborting {
             self.is_aborting = false;
             self.log.tell(Remark::Aborted);
@@ -176,11 +181,11 @@ fn await_coming<W: Wait + Clock, I: Read + AsRawFd>(
     for _ in rt.forever() {
         let (has_connection, has_input) = look(rt, listener.as_raw_fd(), input.as_raw_fd(), ms);
         match hear(input, orders, has_input) {
-            Heard::Abort => return Coming::Abort,
-            Heard::End => return Coming::End {
+            LoggedReader::Abort => return Coming::Abort,
+            LoggedReader::End => return Coming::End {
                 is_at_once: ms == 0,
             },
-            Heard::Other => {}
+            LoggedReader::Other => {}
         }
         if has_connection {
             return Coming::Connection;
@@ -212,30 +217,34 @@ fn look<C: Clock>(rt: &C, first: RawFd, second: RawFd, ms: i32) -> (bool, bool) 
 }
 
 /// What an input had.
-enum Heard {
+enum LoggedReader {
     Abort,
     End,
     Other,
 }
 
 /// Reads what the input has, if anything: a line `abort`, its end or failure, or what is ignored.
-fn hear<I: Read>(input: &mut I, orders: &mut Orders, has_input: bool) -> Heard {
+fn hear<I: Read>(input: &mut I, orders: &mut Orders, has_input: bool) -> LoggedReader {
     if !has_input {
-        return Heard::Other;
+        return LoggedReader::Other;
     }
     let mut bytes = [0_u8; 512];
     match input.read(&mut bytes) {
-        Ok(0) => Heard::End,
+        Ok(0) => LoggedReader::End,
         Ok(n) => {
             let mut is_abort = false;
             for byte in &bytes[..n] {
                 is_abort = orders.take(*byte) || is_abort;
             }
-            if is_abort { Heard::Abort } else { Heard::Other }
+            if is_abort {
+                LoggedReader::Abort
+            } else {
+                LoggedReader::Other
+            }
         }
         Err(error) => match error.kind() {
-            ErrorKind::Interrupted | ErrorKind::WouldBlock => Heard::Other,
-            _ => Heard::End,
+            ErrorKind::Interrupted | ErrorKind::WouldBlock => LoggedReader::Other,
+            _ => LoggedReader::End,
         },
     }
 }

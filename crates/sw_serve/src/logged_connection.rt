@@ -7,7 +7,7 @@ use sw_workers::{Connection, Line, Tcp};
 
 /// A connection of this number.
 #[derive(Drop)]
-pub struct Visitor<L: Log + Drop> {
+pub struct LoggedConnection<L: Log + Drop> {
     pub connection: Tcp,
     pub log: L,
     pub number: u32,
@@ -15,13 +15,13 @@ pub struct Visitor<L: Log + Drop> {
 
 /// What a connection reads from, with its number and the log.
 #[derive(Drop)]
-pub struct Heard<L: Log + Drop> {
+pub struct LoggedReader<L: Log + Drop> {
     reader: Line,
     log: L,
     number: u32,
 }
 
-impl<L: Log + Drop> Heard<L> {
+impl<L: Log + Drop> LoggedReader<L> {
     /// Reports that the connection has left, which was served so.
     pub fn tell_end(&self, is_begun: bool, served: Result<(), ServeFault>) {
         let parting = parting_of(is_begun, served);
@@ -29,16 +29,16 @@ impl<L: Log + Drop> Heard<L> {
     }
 }
 
-impl<L: Log + Drop> Read for Heard<L> {
+impl<L: Log + Drop> Read for LoggedReader<L> {
     fn read(&mut self, buffer: &mut [u8]) -> io::Result<usize> {
         self.reader.read(buffer)
     }
 }
 
-impl<L: Log + Drop> Connection for Visitor<L> {
+impl<L: Log + Drop> Connection for LoggedConnection<L> {
     ghost use Rattle.std.specs.Prelude.{None};
 
-    type In = Heard<L>;
+    type In = LoggedReader<L>;
 
     type Out = Line;
 
@@ -54,14 +54,14 @@ impl<L: Log + Drop> Connection for Visitor<L> {
         self.connection.line()
     }
 
-    fn into_parts(self) -> (Heard<L>, Line, Line) {
-        let Visitor {
+    fn into_parts(self) -> (LoggedReader<L>, Line, Line) {
+        let LoggedConnection {
             connection,
             log,
             number,
         } = self;
         let (reader, writer, aside) = connection.into_parts();
-        let heard = Heard {
+        let heard = LoggedReader {
             reader,
             log,
             number,
@@ -69,11 +69,11 @@ impl<L: Log + Drop> Connection for Visitor<L> {
         (heard, writer, aside)
     }
 
-    fn set_limit(reader: &mut Heard<L>, ms: u32) -> io::Result<()> {
+    fn set_limit(reader: &mut LoggedReader<L>, ms: u32) -> io::Result<()> {
         reader.reader.set_limit(ms)
     }
 
-    fn joined(reader: &Heard<L>, session: u8) {
+    fn joined(reader: &LoggedReader<L>, session: u8) {
         reader.log.tell(Remark::Joined(reader.number, session));
     }
 }
