@@ -8,7 +8,7 @@ passed=0
 failed=0
 lines=()
 faults=()
-running=()
+declare -A running
 logs=$(mktemp -d)
 trap 'for each in "${running[@]}"; do kill -INT -- "-$each" 2>/dev/null; done; rm -rf "$logs"' EXIT
 
@@ -40,28 +40,36 @@ part() {
   count "$name" $((SECONDS - began))
 }
 
+# start NAME COMMAND ..: begins a part that is made beside others, in a process group of its own, which ends with this.
+start() {
+  local name=$1 began=$SECONDS
+  shift
+  set -m
+  ("$@" > "$logs/$name" 2>&1; echo $((SECONDS - began)) > "$logs/$name.seconds") &
+  set +m
+  running[$name]=$!
+}
+
+# collect NAME: waits for the end of a part that was begun, and prints what it told.
+collect() {
+  wait "${running[$1]}"
+  unset "running[$1]"
+  echo "== $1"
+  cat "$logs/$1"
+  count "$1" "$(cat "$logs/$1.seconds")"
+}
+
 # parts FOLDER PROGRAM NAME[+NAME ..]: makes a part of the tests in this folder, or some at once, whose outputs are
 # printed one after another.
 parts() {
-  local folder=$1 program=$2 began=$SECONDS names name
+  local folder=$1 program=$2 names name
   IFS=+ read -ra names <<< "$3"
   if [ ${#names[@]} = 1 ]; then
     part "$3" "$folder/$3/run" "$program"
     return
   fi
-  set -m # so that each is a process group, which ends with this
-  for name in "${names[@]}"; do
-    ("$folder/$name/run" "$program" > "$logs/$name" 2>&1; echo $((SECONDS - began)) > "$logs/$name.seconds") &
-    running+=($!)
-  done
-  set +m
-  for name in "${names[@]}"; do
-    wait "${running[0]}"
-    running=("${running[@]:1}")
-    echo "== $name"
-    cat "$logs/$name"
-    count "$name" "$(cat "$logs/$name.seconds")"
-  done
+  for name in "${names[@]}"; do start "$name" "$folder/$name/run" "$program"; done
+  for name in "${names[@]}"; do collect "$name"; done
 }
 
 # total: prints again the line of each part and the lines that tell what failed, and `N passed, M failed` of all.

@@ -36,7 +36,7 @@ impl<R: Relay, M: Meter> Core<R, M> {
             (any_failed self.old.cage.cards self.new.cage.cards) result (work_seen work.new) self.new }
     {
         match command {
-            Command::NoData(plain) => self.plain(alloc, plain, work),
+            Command::NoData(ask) => self.without_data(alloc, ask, work),
             Command::Signal(layer) => self.signal(layer, work),
             Command::Query(query) => self.tell(alloc, query, available),
             Command::LayerQuery(query, layer) => self.tell_layer(query, layer),
@@ -45,7 +45,7 @@ impl<R: Relay, M: Meter> Core<R, M> {
             Command::DestructiveQuery(read) => self.read_out(alloc, read),
             Command::Continuous(true) => conflict(),
             Command::Continuous(false) => SessionAnswer::Done(None),
-            Command::Relays(ask, chans) => self.channels(alloc, ask, chans.as_slice()),
+            Command::Relays(ask, chans) => self.relays(alloc, ask, chans.as_slice()),
             Command::ListingCheck(listing) => self.check_listing(alloc, listing.as_slice()),
             Command::Set(setting) => self.set(setting),
             Command::SetStatus(setting) => self.set_status(setting),
@@ -57,13 +57,18 @@ impl<R: Relay, M: Meter> Core<R, M> {
     /// Carries a command without data out.
     #[tactic(auto, using(crate::proofs::CallsLemmas::failed_same))]
     #[inline(always)]
-    fn plain(&mut self, alloc: Global, plain: NoData, work: &mut Option<Work<M>>) -> SessionAnswer
-        requires unheld { awaits_end (Command.NoData plain) && is_running self.old ≡ false }
+    fn without_data(
+        &mut self,
+        alloc: Global,
+        ask: NoData,
+        work: &mut Option<Work<M>>,
+    ) -> SessionAnswer
+        requires unheld { awaits_end (Command.NoData ask) && is_running self.old ≡ false }
         requires empty { work.old ≡ None }
-        ensures { (ask : SessionAsk) → StepAction (no_data_action plain) self.old ask
+        ensures { (asked : SessionAsk) → StepAction (no_data_action ask) self.old asked
             (any_failed self.old.cage.cards self.new.cage.cards) result (work_seen work.new) self.new }
     {
-        match plain {
+        match ask {
             NoData::Reset => self.reset(),
             NoData::ClearStatus => self.clear_status(),
             NoData::OperationComplete => self.complete_operation(),
@@ -82,8 +87,8 @@ impl<R: Relay, M: Meter> Core<R, M> {
     /// Carries a command with a channel list out.
     #[tactic(auto, using(crate::proofs::CallsLemmas::failed_same))]
     #[inline(always)]
-    fn channels(&mut self, alloc: Global, ask: RelayCommand, chans: &[Chan]) -> SessionAnswer
-        ensures { (ask_of : SessionAsk) → StepAction (relay_action ask chans.now) self.old ask_of
+    fn relays(&mut self, alloc: Global, ask: RelayCommand, chans: &[Chan]) -> SessionAnswer
+        ensures { (asked : SessionAsk) → StepAction (relay_action ask chans.now) self.old asked
             (any_failed self.old.cage.cards self.new.cage.cards) result None self.new }
     {
         match ask {

@@ -74,7 +74,7 @@ pub fn carry_out<D: Desk>(
         Begins sid answered (Ok command) macros.old t (begun_with result macros.new rest)) }
 {
     match command {
-        Command::NoData(plain) => carry_plain(desk, sid, alloc, macros, plain, answered),
+        Command::NoData(command) => carry_without_data(desk, sid, alloc, macros, command, answered),
         Command::Macros(ask) => {
             let outcome = act_on_all(alloc, macros, ask);
             report(desk, sid, outcome)
@@ -88,22 +88,22 @@ pub fn carry_out<D: Desk>(
 }
 
 /// Carries out a command without data, as `carry_out` does.
-fn carry_plain<D: Desk>(
+fn carry_without_data<D: Desk>(
     desk: &mut D,
     sid: Sid,
     alloc: Global,
     macros: &mut Macros,
-    plain: NoData,
+    command: NoData,
     answered: bool,
 ) -> SessionAnswer
     ensures { Led D.passes desk.old desk.new (λ t rest.
-        Begins sid answered (Ok (Command.NoData plain)) macros.old t (begun_with result macros.new rest)) }
+        Begins sid answered (Ok (Command.NoData command)) macros.old t (begun_with result macros.new rest)) }
 {
-    match plain {
+    match command {
         NoData::Initiate => initiate(desk, sid, alloc),
         NoData::Read => read(desk, sid, alloc, answered),
         NoData::Reset => reset(desk, sid, macros, answered),
-        plain => ask(desk, sid, Command::NoData(plain), answered),
+        command => ask(desk, sid, Command::NoData(command), answered),
     }
 }
 

@@ -25,7 +25,7 @@ returns-in-Macro g c =
     c.report-in-Macro.ensures
 
 pub returns-in-NoData : goal.returns-in-NoData
-returns-in-NoData g c = rw c.in-NoData.is c.carry_plain.ensures
+returns-in-NoData g c = rw c.in-NoData.is c.carry_without_data.ensures
 
 pub returns-in_default : goal.returns-in_default
 returns-in_default g c = c.ask.ensures c.args.macros.now

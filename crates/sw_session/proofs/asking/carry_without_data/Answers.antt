@@ -1,5 +1,5 @@
 use Rattle.sw_session.proofs.BeginsLemmas.{begins-scan, begins-read}
-use Rattle.sw_session.proofs.asking.carry_plain.Goals as goal
+use Rattle.sw_session.proofs.asking.carry_without_data.Goals as goal
 
 pub returns-in-Initiate : goal.returns-in-Initiate
 returns-in-Initiate g c =
