@@ -1,6 +1,6 @@
 -- Parts of a server's run, one after another.
 use Rattle.std.proofs.Common.{◌≡◌, ℕ, ◌+◌, List, [], ◌∷◌, ◌++◌, refl, sym, ap, ap₂, ◌∙◌, append_assoc, append-nil, arith, inl, inr, subst}
-use Rattle.std.proofs.Common.{flat_map, Ok, Err, Some, None, Option, Result}
+use Rattle.std.proofs.Common.{flat_map, Ok, Err, Some, None, Option, Result, IfOk, OnErr}
 use Rattle.std.proofs.lemmas.List.Concat.{flat_map-append}
 use Rattle.std.specs.Prelude.{option_map}
 use Rattle.std.specs.Io.KnownBytes.{Appends}
@@ -11,10 +11,9 @@ use Rattle.sw_hislip.specs.Pending.{Pending, fed}
 use Rattle.sw_hislip.specs.Stream.{Call, feeds, answers, Decodes, stream_of, told}
 use Rattle.sw_session.specs.declared.engine.step.Sent.{Sent}
 use Rattle.sw_session.specs.Said.{StepSeen}
-use Rattle.sw_session.specs.declared.servers.act.Act.{Act}
-use Rattle.sw_session.specs.declared.servers.act.Act.TheVariants.{Takes, Skips, Refuses, Notices}
-use Rattle.sw_session.specs.declared.servers.act.AfterStep.{AfterStep}
-use Rattle.sw_session.specs.declared.servers.act.AfterStep.TheVariants.{Goes, Ends, Fatal, Malformed}
+use Rattle.sw_session.specs.Acts.{Act, Takes, Skips, Refuses, Notices}
+use Rattle.sw_session.specs.declared.servers.after_step.AfterStep.{AfterStep}
+use Rattle.sw_session.specs.declared.servers.after_step.AfterStep.TheVariants.{Goes, Ends, Fatal, Malformed}
 use Rattle.sw_session.specs.declared.servers.fault.ServeFault.{ServeFault}
 use Rattle.sw_session.specs.declared.servers.fault.ServeFault.TheVariants as Fault
 use Rattle.sw_session.specs.Trace.{Entry, Leads}
@@ -25,7 +24,7 @@ use Rattle.sw_session.specs.ServeHand.{availability_notes, HandsOver, HandsUpTo}
 use Rattle.sw_session.specs.ServeRead.{PausesBy}
 use Rattle.sw_session.specs.Serve.{Exchange, Speaks, acts_of, asks_of, said_of, arrived, is_refused, after_step, pauses}
 use Rattle.sw_session.specs.Serve.{is_pause}
-use Rattle.sw_session.specs.Serve.{Spoken, Stops, Breaks, GoesThrough, Processes, IsCutOff, Finds, TellsActs}
+use Rattle.sw_session.specs.Serve.{Spoken, Stops, Breaks, GoesThrough, Says, Processes, IsCutOff, Finds, TellsActs}
 use Rattle.sw_session.proofs.ServeKnownLemmas.{appends-nothing, appends-more}
 
 -- ---- the engine's definition
@@ -223,6 +222,17 @@ pub processes-starved : {E D : Type 0} (u : Voice E D) (a b : Point E D) (act : 
     → LedBy u.passes a.desk b.desk (λ asked. u.protocol.falters a.engine act asked b.engine) → b.main ≡ a.main → b.side ≡ a.side
     → Processes u act a b (Err Fault.NoMemory)
 processes-starved u a b act led main side = inr (record { asked = led.asked; falters = led.admits; asks = led.leads; main = main; side = side })
+
+-- what an engine said to an act, or that there was no memory for it
+pub processes-said : {E D X : Type 0} (u : Voice E D) (a m b : Point E D) (act : Act) (said : Result StepSeen X) (r : Result AfterStep ServeFault)
+    → IfOk said (λ step. LedBy u.passes a.desk m.desk (λ asked. u.protocol.speaks a.engine act asked step m.engine))
+    → OnErr said (LedBy u.passes a.desk m.desk (λ asked. u.protocol.falters a.engine act asked m.engine))
+    → m.main ≡ a.main → m.side ≡ a.side → Says u said (is_refused act) m b r → Processes u act a b r
+processes-said u a m b act (Ok step) (Ok after) speaks falters main side h = processes-ok u a m b act step after speaks main side h.0 h.1
+processes-said u a m b act (Ok step) (Err fault) speaks falters main side h = processes-err u a m b act step fault speaks main side h
+processes-said u a m b act (Err x) r speaks falters main side h =
+    subst (λ (q : Result AfterStep ServeFault). Processes u act a b q) (sym h.0)
+    (subst (λ p. Processes u act a p (Err Fault.NoMemory)) (sym h.1) (processes-starved u a m act falters main side))
 
 -- ---- reads that a time limit ended
 

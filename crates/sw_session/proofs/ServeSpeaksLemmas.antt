@@ -11,13 +11,13 @@ use Rattle.sw_session.specs.declared.engine.step.Channel.{Channel}
 use Rattle.sw_session.specs.declared.engine.step.Channel.TheVariants.{Synchronous, Asynchronous}
 use Rattle.sw_session.specs.declared.servers.fault.ServeFault.{ServeFault}
 use Rattle.sw_session.specs.Said.{StepSeen}
-use Rattle.sw_session.specs.declared.servers.act.Act.TheVariants as Act
+use Rattle.sw_session.specs.Acts.{Act}
 use Rattle.sw_session.specs.Trace.{Entry, Polled}
 use Rattle.sw_session.specs.EngineStep.{LedBy, goes, says, fails}
 use Rattle.sw_session.specs.Engine.{EngineStanding, fresh_engine, TakesMessage, Falters, session_of, channel_of_state, too_large, skips, notice_from}
 use Rattle.sw_session.specs.Engine.{noticed_from}
 use Rattle.sw_session.specs.ServePoint.{voice, Point}
-use Rattle.sw_session.specs.declared.servers.act.AfterStep.TheVariants.{Goes}
+use Rattle.sw_session.specs.declared.servers.after_step.AfterStep.TheVariants.{Goes}
 use Rattle.sw_session.specs.Serve.{RunsChannel, with_desk, LeavesSession, Processes}
 use Rattle.sw_session.specs.ServeEngine.{told_step, second_session_of, LooksFor, Looks, EngineSpeaks, EngineFalters, engine_protocol}
 use Rattle.sw_session.specs.ServeEngine.{Station, manned, ServesChannel}

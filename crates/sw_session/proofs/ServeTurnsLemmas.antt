@@ -8,10 +8,9 @@ use Rattle.sw_hislip.specs.declared.kind.Kind.{Kind}
 use Rattle.sw_hislip.specs.declared.message.Message.{Message}
 use Rattle.sw_hislip.specs.Pending.{Pending, nothing_fed, fed, Waits}
 use Rattle.sw_hislip.specs.Stream.{Call, Follows, EveryMessageComesOut, LeavesARest, stream_of}
-use Rattle.sw_session.specs.declared.servers.act.Act.{Act}
-use Rattle.sw_session.specs.declared.servers.act.Act.TheVariants.{Notices}
-use Rattle.sw_session.specs.declared.servers.act.AfterStep.{AfterStep}
-use Rattle.sw_session.specs.declared.servers.act.AfterStep.TheVariants.{Goes, Ends, Fatal, Malformed}
+use Rattle.sw_session.specs.Acts.{Act, Notices}
+use Rattle.sw_session.specs.declared.servers.after_step.AfterStep.{AfterStep}
+use Rattle.sw_session.specs.declared.servers.after_step.AfterStep.TheVariants.{Goes, Ends, Fatal, Malformed}
 use Rattle.sw_session.specs.declared.servers.fault.ServeFault.{ServeFault}
 use Rattle.sw_session.specs.declared.servers.fault.ServeFault.TheVariants as Fault
 use Rattle.sw_session.specs.declared.servers.turns.Received.TheVariants as Received

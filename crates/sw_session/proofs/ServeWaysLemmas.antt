@@ -1,21 +1,24 @@
 -- The ways of a turn, and turns one after another.
 use Rattle.std.proofs.Common.{◌≡◌, ℕ, ◌+◌, ◌<◌, List, [], ◌∷◌, ◌++◌, length, drop, refl, sym, ap, ◌∙◌, append_assoc, append-nil, length-append, arith, inl, inr}
 use Rattle.std.proofs.Common.{subst, flat_map, Ok, Err, Some, None, Option, Result, IfOk, true, false}
+use Rattle.std.specs.Result.{result_transpose}
 use Rattle.std.proofs.lemmas.List.{length-drop}
 use Rattle.std.proofs.lemmas.List.Concat.{flat_map-append}
 use Rattle.sw_hislip.specs.Wire.{header, header_of}
 use Rattle.sw_hislip.specs.declared.message.Message.{Message}
-use Rattle.sw_hislip.specs.Pending.{Pending, Waits, HasWrongPrologue}
-use Rattle.sw_session.specs.declared.servers.act.Act.{Act}
-use Rattle.sw_session.specs.declared.servers.act.Act.TheVariants.{Takes, Skips, Refuses, Notices}
-use Rattle.sw_session.specs.declared.servers.act.AfterStep.{AfterStep}
-use Rattle.sw_session.specs.declared.servers.act.AfterStep.TheVariants.{Goes, Ends, Fatal, Malformed}
+use Rattle.sw_hislip.specs.declared.fault.WireFault.{WireFault}
+use Rattle.sw_hislip.specs.declared.fault.WireFault.TheVariants.{TooLarge, BadPrologue, NoMemory}
+use Rattle.sw_hislip.specs.Pending.{Pending, Waits, HasWrongPrologue, GivesNext}
+use Rattle.sw_session.specs.Acts.{Act, Takes, Skips, Refuses, Notices}
+use Rattle.sw_session.specs.declared.servers.after_step.AfterStep.{AfterStep}
+use Rattle.sw_session.specs.declared.servers.after_step.AfterStep.TheVariants.{Goes, Ends, Fatal, Malformed}
 use Rattle.sw_session.specs.declared.servers.fault.ServeFault.{ServeFault}
+use Rattle.sw_session.specs.declared.servers.fault.ServeFault.TheVariants as Fault
 use Rattle.sw_session.specs.declared.servers.turns.Received.{Received}
 use Rattle.sw_session.specs.declared.servers.turns.Next.{Next}
 use Rattle.sw_session.specs.ServePoint.{Voice, Point}
 use Rattle.sw_session.specs.Serve.{acts_for, is_refused, pauses, Stops, GoesThrough, Judges, Processes, ProcessesEach, Finds, HoldsMessage}
-use Rattle.sw_session.specs.Serve.{goes_on, NextInput, TellsActs, Stands, Listens, CountsReceived, HearsAll, Course, TakesServerTurn}
+use Rattle.sw_session.specs.Serve.{goes_on, GivesHeard, ServesHeard, TellsActs, Stands, Listens, CountsReceived, HearsAll, Course, TakesServerTurn}
 use Rattle.sw_session.proofs.ServePartsLemmas.{found-unpaused, none-more, tells-nothing, tells-then, tells-found, goes-nowhere, goes-then, ends-before}
 use Rattle.sw_session.proofs.ServePartsLemmas.{stops-then}
 use Rattle.sw_session.proofs.ServePartsLemmas.{stops-at}
@@ -33,12 +36,12 @@ went-on (Ok (Fatal code)) t = absurd (cc (t))
 went-on (Ok Malformed) t = absurd (cc (t))
 went-on (Err fault) t = absurd (cc (t))
 
-pub each-is : {E D : Type 0} (u : Voice E D) (acts : List Act) (a b : Point E D) (r q : Result AfterStep ServeFault)
-    → r ≡ q → ProcessesEach u acts a b r → ProcessesEach u acts a b q
-each-is u acts a b r q e h = subst (λ (x : Result AfterStep ServeFault). ProcessesEach u acts a b x) e h
+pub gives-is : (p p' : Pending) (o q : Option (Result Message WireFault)) → o ≡ q → GivesHeard p p' o → GivesHeard p p' q
+gives-is p p' o q e g = subst (λ (x : Option (Result Message WireFault)). GivesHeard p p' x) e g
 
-pub next-is : (p p' : Pending) (r : Result (Option Act) ServeFault) (input : Act) → r ≡ Ok (Some input) → NextInput p p' r → Finds p input p'
-next-is p p' r input e n = subst (λ (x : Result (Option Act) ServeFault). NextInput p p' x) e n
+pub serves-is : {E D : Type 0} (u : Voice E D) (heard : Result Message WireFault) (a b : Point E D) (r q : Result AfterStep ServeFault)
+    → r ≡ q → ServesHeard u heard a b r → ServesHeard u heard a b q
+serves-is u heard a b r q e h = subst (λ (x : Result AfterStep ServeFault). ServesHeard u heard a b x) e h
 
 pub listens-is : (input left : Option (List ℕ)) (p p' : Pending) (r q : Result Received ServeFault) → r ≡ q → Listens input left p p' r → Listens input left p
     p' q
@@ -58,14 +61,6 @@ pub each-one : {E D : Type 0} (u : Voice E D) (act : Act) (a b : Point E D) (r :
     → Processes u act a b r → ProcessesEach u (act ∷ []) a b r
 each-one u act a b (Ok after) h = h
 each-one u act a b (Err fault) h = stops-at u a b act [] fault h
-
--- one that is no message
-pub each-alone : {E D : Type 0} (u : Voice E D) (act : Act) (a b : Point E D) (r : Result AfterStep ServeFault)
-    → ((m : Message) → act ≡ Takes m → ⊥) → Processes u act a b r → ProcessesEach u (acts_for act) a b r
-each-alone u (Takes m) a b r n h = absurd (n m refl)
-each-alone u (Skips kind) a b r n h = each-one u (Skips kind) a b r h
-each-alone u Refuses a b r n h = each-one u Refuses a b r h
-each-alone u Notices a b r n h = each-one u Notices a b r h
 
 -- an act, and then another
 pub each-two : {E D : Type 0} (u : Voice E D) (first second : Act) (a b c : Point E D) (r : Result AfterStep ServeFault)
@@ -100,10 +95,18 @@ takes-bytes p p' (Skips kind) (h, got, large, named, same) judged =
 takes-bytes p p' Refuses f judged = absurd (cc (judged))
 takes-bytes p p' Notices f judged = absurd f
 
-pub takes-on : (p p' : Pending) (input : Act) (r : Result AfterStep ServeFault) → Finds p input p' → goes_on r ≡ true
-    → IfOk r (λ after. Judges (is_refused input) after) → length p'.bytes < length p.bytes
-takes-on p p' input r f t j =
-    takes-bytes p p' input f (subst (λ (x : Result AfterStep ServeFault). IfOk x (λ after. Judges (is_refused input) after)) (went-on r t) j)
+-- what the decoder gives, in its order
+pub gives-heard : (p p' : Pending) (r : Result (Option Message) WireFault) → GivesNext p r p' → GivesHeard p p' (result_transpose r)
+gives-heard p p' (Ok None) g = g
+gives-heard p p' (Ok (Some m)) g = g
+gives-heard p p' (Err fault) g = g
+
+pub heard-smaller : {E D : Type 0} (u : Voice E D) (p p' : Pending) (a b : Point E D) (heard : Result Message WireFault)
+    → GivesHeard p p' (Some heard) → ServesHeard u heard a b (Ok Goes) → length p'.bytes < length p.bytes
+heard-smaller u p p' a b (Ok m) g s = takes-bytes p p' (Takes m) g s.1
+heard-smaller u p p' a b (Err (TooLarge kind)) g s = takes-bytes p p' (Skips kind) g s.1
+heard-smaller u p p' a b (Err BadPrologue) g s = takes-bytes p p' Refuses g s.1
+heard-smaller u p p' a b (Err NoMemory) g s = absurd (cc (s.0))
 
 -- what is pending once the channel ended so
 pub stands : (p p' : Pending) (input : Act) (after : AfterStep) → (after ≡ Goes → ⊥) → Finds p input p' → Judges (is_refused input) after → Stands after p'
@@ -145,9 +148,16 @@ hearing-on u p q q' a b c input k f h = record {
   goes = goes-more u a b c k.inputs input Goes k.goes h;
 }
 
+pub hearing-heard : {E D : Type 0} (u : Voice E D) (p q q' : Pending) (a b c : Point E D) (heard : Result Message WireFault)
+    → Hearing u p q a b → GivesHeard q q' (Some heard) → ServesHeard u heard b c (Ok Goes) → Hearing u p q' a c
+hearing-heard u p q q' a b c (Ok m) k g s = hearing-on u p q q' a b c (Takes m) k g s.0
+hearing-heard u p q q' a b c (Err (TooLarge kind)) k g s = hearing-on u p q q' a b c (Skips kind) k g s.0
+hearing-heard u p q q' a b c (Err BadPrologue) k g s = hearing-on u p q q' a b c Refuses k g s.0
+hearing-heard u p q q' a b c (Err NoMemory) k g s = absurd (cc (s.0))
+
 -- no more is whole
 pub all-processed : {E D : Type 0} (u : Voice E D) (p q q' : Pending) (a b : Point E D)
-    → Hearing u p q a b → NextInput q q' (Ok None) → HearsAll u p q' a b (Ok Goes)
+    → Hearing u p q a b → GivesHeard q q' None → HearsAll u p q' a b (Ok Goes)
 all-processed u p q q' a b k (waits, same) = record {
   inputs = k.inputs;
   unpaused = k.unpaused;
@@ -176,14 +186,17 @@ all-stopped u p q q' a b c input fault k f h = record {
       (stops-then u a b c (flat_map acts_for k.inputs) (acts_for input) fault k.goes h));
 }
 
-pub all-starved : {E D : Type 0} (u : Voice E D) (p q q' : Pending) (a b : Point E D) (fault : ServeFault)
-    → Hearing u p q a b → NextInput q q' (Err fault) → HearsAll u p q' a b (Err fault)
-all-starved u p q q' a b fault k (e, same, whole) = record {
-  inputs = k.inputs;
-  unpaused = k.unpaused;
-  tells = subst (λ (r : Pending). TellsActs p r [] k.inputs) (sym same) k.tells;
-  spoken = inr (e, k.goes, subst (λ (r : Pending). HoldsMessage r) (sym same) whole);
-}
+pub all-starved : {E D : Type 0} (u : Voice E D) (p q q' : Pending) (a b c : Point E D) (r : Result AfterStep ServeFault)
+    → Hearing u p q a b → GivesNext q (Err NoMemory) q' → r ≡ Err Fault.NoMemory → c ≡ b → HearsAll u p q' a c r
+all-starved u p q q' a b c r k (m, more, has, same) e f =
+    let whole : HearsAll u p q' a b (Err Fault.NoMemory) = record {
+      inputs = k.inputs;
+      unpaused = k.unpaused;
+      tells = subst (λ (r : Pending). TellsActs p r [] k.inputs) (sym same) k.tells;
+      spoken = inr (refl, k.goes, subst (λ (r : Pending). HoldsMessage r) (sym same) (m, more, has));
+    } in
+    subst (λ (x : Result AfterStep ServeFault). HearsAll u p q' a c x) (sym e)
+    (subst (λ x. HearsAll u p q' a x (Err Fault.NoMemory)) (sym f) whole)
 
 -- or what it tells ends the channel, or fails
 pub all-over : {E D : Type 0} (u : Voice E D) (p q q' : Pending) (a b c : Point E D) (input : Act) (r : Result AfterStep ServeFault)
@@ -194,3 +207,10 @@ all-over u p q q' a b c input (Ok Ends) t k f h j = all-ended u p q q' a b c inp
 all-over u p q q' a b c input (Ok (Fatal code)) t k f h j = all-ended u p q q' a b c input (Fatal code) (λ e. absurd (cc (e))) k f h j
 all-over u p q q' a b c input (Ok Malformed) t k f h j = all-ended u p q q' a b c input Malformed (λ e. absurd (cc (e))) k f h j
 all-over u p q q' a b c input (Err fault) t k f h j = all-stopped u p q q' a b c input fault k f h
+
+pub heard-over : {E D : Type 0} (u : Voice E D) (p q q' : Pending) (a b c : Point E D) (heard : Result Message WireFault) (r : Result AfterStep ServeFault)
+    → goes_on r ≡ false → Hearing u p q a b → GivesHeard q q' (Some heard) → ServesHeard u heard b c r → HearsAll u p q' a c r
+heard-over u p q q' a b c (Ok m) r t k g s = all-over u p q q' a b c (Takes m) r t k g s.0 s.1
+heard-over u p q q' a b c (Err (TooLarge kind)) r t k g s = all-over u p q q' a b c (Skips kind) r t k g s.0 s.1
+heard-over u p q q' a b c (Err BadPrologue) r t k g s = all-over u p q q' a b c Refuses r t k g s.0 s.1
+heard-over u p q q' a b c (Err NoMemory) r t k g s = all-starved u p q q' a b c r k g s.0 s.1

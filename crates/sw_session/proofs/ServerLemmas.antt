@@ -1,10 +1,12 @@
 -- A server that stays the same.
 use Rattle.std.proofs.Common.{◌≡◌, ℕ, refl, sym, ap, ◌∙◌, subst, List, Result}
+use Rattle.sw_hislip.specs.declared.fault.WireFault.{WireFault}
+use Rattle.sw_hislip.specs.declared.message.Message.{Message}
 use Rattle.sw_hislip.specs.Pending.{Pending}
 use Rattle.sw_session.specs.Beginning.{BeginningSeen}
 use Rattle.sw_session.specs.declared.engine.step.Sent.{Sent}
-use Rattle.sw_session.specs.declared.servers.act.Act.{Act}
-use Rattle.sw_session.specs.declared.servers.act.AfterStep.{AfterStep}
+use Rattle.sw_session.specs.Acts.{Act}
+use Rattle.sw_session.specs.declared.servers.after_step.AfterStep.{AfterStep}
 use Rattle.sw_session.specs.declared.servers.channel_server.ChannelServer.{ChannelServer}
 use Rattle.sw_session.specs.declared.servers.fault.ServeFault.{ServeFault}
 use Rattle.sw_session.specs.declared.servers.turns.Next.{Next}
@@ -12,7 +14,7 @@ use Rattle.sw_session.specs.Trace.{Entry}
 use Rattle.sw_session.specs.Engine.{EngineStanding}
 use Rattle.sw_session.specs.ServePoint.{Voice, voice, Point}
 use Rattle.sw_session.specs.ServeHand.{HandsOne, Hands}
-use Rattle.sw_session.specs.Serve.{Processes, ProcessesEach, Course, TakesServerTurn}
+use Rattle.sw_session.specs.Serve.{Processes, ServesHeard, Course, TakesServerTurn}
 use Rattle.sw_session.specs.ServeEngine.{engine_protocol}
 use Rattle.sw_session.specs.Server.{voice_of, StaysServer}
 use Rattle.sw_session.specs.ServeConnection.{Wiring, Connected, connected, ServesConnection}
@@ -40,9 +42,10 @@ pub processes-so : {W S D : Type 0} (passes : D → Entry → D → Type 0) (a b
     (r : Result AfterStep ServeFault) → StaysServer a b → Processes (voice_of passes b) act p q r → Processes (voice_of passes a) act p q r
 processes-so passes a b act p q r h k = subst (λ (u : Voice EngineStanding _). Processes u act p q r) (speaks-so passes a b h) k
 
-pub each-so : {W S D : Type 0} (passes : D → Entry → D → Type 0) (a b : ChannelServer W S D) (acts : List Act) (p q : Point EngineStanding D)
-    (r : Result AfterStep ServeFault) → StaysServer a b → ProcessesEach (voice_of passes b) acts p q r → ProcessesEach (voice_of passes a) acts p q r
-each-so passes a b acts p q r h k = subst (λ (u : Voice EngineStanding _). ProcessesEach u acts p q r) (speaks-so passes a b h) k
+pub serves-so : {W S D : Type 0} (passes : D → Entry → D → Type 0) (a b : ChannelServer W S D) (heard : Result Message WireFault)
+    (p q : Point EngineStanding D) (r : Result AfterStep ServeFault) → StaysServer a b → ServesHeard (voice_of passes b) heard p q r
+    → ServesHeard (voice_of passes a) heard p q r
+serves-so passes a b heard p q r h k = subst (λ (u : Voice EngineStanding _). ServesHeard u heard p q r) (speaks-so passes a b h) k
 
 pub turn-so : {W S D : Type 0} (passes : D → Entry → D → Type 0) (a b : ChannelServer W S D) (p p' : Pending) (c d : Course EngineStanding D)
     (r : Result Next ServeFault) → StaysServer a b → TakesServerTurn (voice_of passes b) p p' c d r → TakesServerTurn (voice_of passes a) p p' c d r

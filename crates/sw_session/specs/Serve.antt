@@ -1,9 +1,10 @@
 -- What a server of one channel asks and writes for what it reads. An engine takes one act after another; an exchange is
 -- an act with what was asked and said for it.
 use Rattle.std.specs.Prelude.{◌≡◌, ◌≢◌, ℕ, ◌+◌, ◌<◌, ◌≤◌, ◌⊎◌, Bool, true, false, List, [], ◌∷◌, ◌++◌, length, map}
-use Rattle.std.specs.Prelude.{Option, None, Some, Result, Ok, Err, if◌then◌else◌}
+use Rattle.std.specs.Prelude.{Option, None, Some, Result, Ok, Err, IfOk, if◌then◌else◌}
 use Rattle.std.specs.List.{flat_map}
 use Rattle.std.specs.Io.KnownBytes.{Appends, Consumes, IsAtEnd}
+use Rattle.sw_hislip.specs.declared.fault.WireFault.{WireFault}
 use Rattle.sw_hislip.specs.declared.fault.WireFault.TheVariants.{TooLarge, BadPrologue}
 use Rattle.sw_hislip.specs.declared.kind.Kind.{Kind}
 use Rattle.sw_hislip.specs.declared.message.Message.{Message}
@@ -14,10 +15,9 @@ use Rattle.sw_core.specs.declared.ask.SessionAsk.TheVariants as Ask
 use Rattle.sw_core.specs.declared.ask.SessionAnswer.{SessionAnswer}
 use Rattle.sw_session.specs.declared.engine.step.Sent.{Sent}
 use Rattle.sw_session.specs.Said.{StepSeen, fatal_code}
-use Rattle.sw_session.specs.declared.servers.act.Act.{Act}
-use Rattle.sw_session.specs.declared.servers.act.Act.TheVariants.{Takes, Skips, Refuses, Notices}
-use Rattle.sw_session.specs.declared.servers.act.AfterStep.{AfterStep}
-use Rattle.sw_session.specs.declared.servers.act.AfterStep.TheVariants.{Goes, Ends, Fatal, Malformed}
+use Rattle.sw_session.specs.Acts.{Act, Takes, Skips, Refuses, Notices, asked_by}
+use Rattle.sw_session.specs.declared.servers.after_step.AfterStep.{AfterStep}
+use Rattle.sw_session.specs.declared.servers.after_step.AfterStep.TheVariants.{Goes, Ends, Fatal, Malformed}
 use Rattle.sw_session.specs.declared.servers.fault.ServeFault.{ServeFault}
 use Rattle.sw_session.specs.declared.servers.fault.ServeFault.TheVariants as Fault
 use Rattle.sw_session.specs.declared.servers.turns.Received.{Received}
@@ -28,7 +28,7 @@ use Rattle.sw_session.specs.Trace.{Entry, Asked, Leads}
 use Rattle.sw_session.specs.ServeRead.{PausesBy}
 use Rattle.sw_session.specs.ServeWrite.{wire_on, wire_off}
 use Rattle.sw_session.specs.ServePoint.{Protocol, Voice, Point, point}
-use Rattle.sw_session.specs.ServeHand.{availability_notes, HandsUpTo}
+use Rattle.sw_session.specs.ServeHand.{availability_notes, HandsOver, HandsUpTo}
 
 -- ---- acts
 
@@ -167,6 +167,13 @@ GoesThrough u a b acts after =
 
 -- ---- clauses of a server's parts
 
+-- what the engine said is given to the writers, if there was memory for it
+abbrev pub Says : {E D X : Type 0} → Voice E D → Result StepSeen X → Bool → Point E D → Point E D
+    → Result AfterStep ServeFault → Type 0
+Says u (Ok step) wrong a b (Ok after) = HandsOver u a b step.out × (after ≡ after_step wrong step)
+Says u (Ok step) wrong a b (Err fault) = HandsUpTo u a b step.out fault
+Says u (Err _) wrong a b result = (result ≡ Err Fault.NoMemory) × (b ≡ a)
+
 -- one act
 abbrev pub Processes : {E D : Type 0} → Voice E D → Act → Point E D → Point E D → Result AfterStep ServeFault → Type 0
 Processes u act a b (Ok after) = GoesThrough u a b (act ∷ []) after
@@ -194,11 +201,23 @@ Finds p (Skips kind) p' = GivesNext p (Err (TooLarge kind)) p'
 Finds p Refuses p' = GivesNext p (Err BadPrologue) p'
 Finds p Notices p' = ⊥
 
--- where there is no memory for a message that is whole, it stays
-abbrev pub NextInput : Pending → Pending → Result (Option Act) ServeFault → Type 0
-NextInput p p' (Ok None) = Waits p.bytes × (p' ≡ p)
-NextInput p p' (Ok (Some input)) = Finds p input p'
-NextInput p p' (Err fault) = (fault ≡ Fault.NoMemory) × (p' ≡ p) × HoldsMessage p
+-- what the decoder gives next: where there is no memory for a message that is whole, it stays
+abbrev pub GivesHeard : Pending → Pending → Option (Result Message WireFault) → Type 0
+GivesHeard p p' None = GivesNext p (Ok None) p'
+GivesHeard p p' (Some (Ok m)) = GivesNext p (Ok (Some m)) p'
+GivesHeard p p' (Some (Err fault)) = GivesNext p (Err fault) p'
+
+-- What was heard is served: the act that it asks for, and what comes before that. Where there was no memory for it
+-- nothing is done.
+abbrev pub ServesAct : {E D : Type 0} → Voice E D → Option Act → Point E D → Point E D → Result AfterStep ServeFault
+    → Type 0
+ServesAct u (Some act) a b result =
+    ProcessesEach u (acts_for act) a b result × IfOk result (λ after. Judges (is_refused act) after)
+ServesAct u None a b result = (result ≡ Err Fault.NoMemory) × (b ≡ a)
+
+abbrev pub ServesHeard : {E D : Type 0} → Voice E D → Result Message WireFault → Point E D → Point E D
+    → Result AfterStep ServeFault → Type 0
+ServesHeard u heard a b result = ServesAct u (asked_by heard) a b result
 
 -- one read: what came is fed, or lost where there is no memory for it
 abbrev pub Listens : Option (List ℕ) → Option (List ℕ) → Pending → Pending → Result Received ServeFault → Type 0

@@ -8,7 +8,7 @@ use Rattle.sw_session.specs.declared.engine.session.State.TheVariants.{Attached}
 use Rattle.sw_session.specs.declared.engine.step.Channel.{Channel}
 use Rattle.sw_session.specs.declared.engine.step.Channel.TheVariants.{Asynchronous}
 use Rattle.sw_session.specs.Said.{StepSeen}
-use Rattle.sw_session.specs.declared.servers.act.Act.{Act}
+use Rattle.sw_session.specs.Acts.{Act}
 use Rattle.sw_session.specs.declared.servers.fault.ServeFault.{ServeFault}
 use Rattle.sw_session.specs.Trace.{Entry, Polled}
 use Rattle.sw_session.specs.EngineStep.{goes, says, fails, Unasked}

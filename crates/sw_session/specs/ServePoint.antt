@@ -3,7 +3,7 @@ use Rattle.std.specs.Prelude.{ℕ, List, Option}
 use Rattle.sw_core.specs.declared.ask.Sid.{Sid}
 use Rattle.sw_session.specs.declared.engine.step.Channel.{Channel}
 use Rattle.sw_session.specs.Said.{StepSeen}
-use Rattle.sw_session.specs.declared.servers.act.Act.{Act}
+use Rattle.sw_session.specs.Acts.{Act}
 use Rattle.sw_session.specs.Trace.{Entry}
 
 -- An engine's definition: what it asks and says to an act, and its state then; what it may have asked, and its possible

@@ -1,6 +1,6 @@
 //! Servers of one channel over any reader, writers and desk.
 
-mod act;
+mod after_step;
 mod beginning;
 mod channel;
 mod channel_server;

@@ -1,40 +1,19 @@
 //! An engine as a server asks it.
 
-ghost use Rattle.std.specs.Prelude.{◌≡◌, IfOk, OnErr};
+ghost use Rattle.std.specs.Prelude.{◌≡◌, Some, IfOk, OnErr};
 ghost use Rattle.sw_session.specs.EngineStep.{LedBy, says, fails, reply_step};
 ghost use Rattle.sw_session.specs.Engine.{channel_of_state, too_large, skips};
-ghost use Rattle.sw_session.specs.ServeEngine.{EngineSpeaks, EngineFalters, Looks, second_session_of, told_step};
+ghost use Rattle.sw_session.specs.ServeEngine.{Looks, second_session_of, told_step};
 ghost use Rattle.sw_session.specs.declared.engine.refusals.FatalCode.TheVariants.{PoorlyFormed};
 
 use crate::desk::Desk;
 use crate::engine::{Channel, Engine, FatalCode, Reply, Step, step_of};
-use crate::servers::act::Act;
 use std::alloc::{AllocError, Global};
 use sw_core::Sid;
 use sw_hislip::{Kind, Message};
 
-/// Asks an engine for an act, and gives the step.
-pub fn handle<D: Desk>(
-    alloc: Global,
-    act: Act,
-    engine: &mut Engine,
-    desk: &mut D,
-) -> Result<Step, AllocError>
-    ensures ok { IfOk result (λ step. LedBy D.passes desk.old desk.new
-        (λ asked. EngineSpeaks engine.old act asked step engine.new)) }
-    ensures err { OnErr result (LedBy D.passes desk.old desk.new
-        (λ asked. EngineFalters engine.old act asked engine.new)) }
-{
-    match act {
-        Act::Takes(message) => engine.take(message, desk),
-        Act::Skips(kind) => skip(alloc, kind, engine),
-        Act::Refuses => refuse(alloc, engine),
-        Act::Notices => look(alloc, engine, desk),
-    }
-}
-
 /// Answers a message of this kind, which was too large.
-fn skip(alloc: Global, kind: Kind, engine: &mut Engine) -> Result<Step, AllocError>
+pub fn skip(alloc: Global, kind: Kind, engine: &mut Engine) -> Result<Step, AllocError>
     ensures says { IfOk result (λ step. step ≡ says (channel_of_state engine.old.state) too_large) }
     ensures skips { IfOk result (λ _. engine.new ≡ record engine.old { state = skips kind engine.old.state }) }
     ensures same { OnErr result (engine.new ≡ engine.old) }
@@ -45,7 +24,7 @@ fn skip(alloc: Global, kind: Kind, engine: &mut Engine) -> Result<Step, AllocErr
 }
 
 /// Answers a header that doesn't begin with `HS`.
-fn refuse(alloc: Global, engine: &Engine) -> Result<Step, AllocError>
+pub fn refuse(alloc: Global, engine: &Engine) -> Result<Step, AllocError>
     ensures { IfOk result (λ step. step ≡ fails (channel_of_state engine.now.state) PoorlyFormed) }
 {
     let room = Vec::with_capacity(alloc, 1)?;
@@ -73,17 +52,20 @@ fn told(notice: Option<Message>) -> Reply
     }
 }
 
-/// Says service requests that were not said yet: on the second channel of a session alone.
-fn look<D: Desk>(alloc: Global, engine: &mut Engine, desk: &mut D) -> Result<Step, AllocError>
+/// Says service requests that were not said yet, on the second channel of this session.
+pub fn look<D: Desk>(
+    alloc: Global,
+    sid: Sid,
+    engine: &mut Engine,
+    desk: &mut D,
+) -> Result<Step, AllocError>
+    requires { second_session_of engine.old.state ≡ Some sid }
     ensures ok { IfOk result (λ step. LedBy D.passes desk.old desk.new (λ asked.
         Looks engine.old.state asked step engine.new.state)) }
     ensures spent { engine.new.spent ≡ engine.old.spent }
     ensures same { OnErr result (engine.new ≡ engine.old) }
     ensures unasked { OnErr result (desk.new ≡ desk.old) }
 {
-    let Some(sid) = second_session(engine) else {
-        return Ok(Step::new(Vec::new(alloc), false));
-    };
     let room = Vec::with_capacity(alloc, 1)?;
     let notice = engine.notice(desk.poll(sid));
     Ok(step_of(alloc, Channel::Asynchronous, room, told(notice)))

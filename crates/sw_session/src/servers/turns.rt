@@ -4,19 +4,19 @@ ghost use Rattle.std.specs.Prelude.{◌≡◌, ◌<◌, ℕ, List, Option, lengt
 ghost use Rattle.std.specs.Io.KnownBytes.{prepend_known};
 ghost use Rattle.sw_hislip.specs.Pending.{Waits, nothing_fed};
 ghost use Rattle.sw_session.specs.ServeRead.{IsLedTo};
-ghost use Rattle.sw_session.specs.Serve.{Listens, CountsReceived, NextInput, HearsAll, TakesServerTurn, RunsChannel};
+ghost use Rattle.sw_session.specs.Serve.{Listens, CountsReceived, GivesHeard, HearsAll, TakesServerTurn, RunsChannel};
 ghost use Rattle.sw_session.specs.Serve.{conclude, course};
 ghost use Rattle.sw_session.specs.Server.{voice_of, stands, stands_by, StaysServer, WriteFails};
 
 use crate::desk::Desk;
-use crate::servers::act::{Act, AfterStep, goes_on};
+use crate::servers::after_step::{AfterStep, goes_on};
 use crate::servers::channel_server::ChannelServer;
 use crate::servers::fault::ServeFault;
 use crate::servers::rooms::Rooms;
 use crate::servers::source::{ByteSource, Unread};
 use crate::servers::writing::Sink;
 use std::alloc::Global;
-use sw_hislip::{Decoder, WireFault, every_message_comes_out, nothing_whole_is_left};
+use sw_hislip::{Decoder, Message, WireFault, every_message_comes_out, nothing_whole_is_left};
 
 /// What a read gave.
 #[derive(Clone, Copy, Debug, PartialEq, Eq)]
@@ -76,21 +76,15 @@ fn conclude(processed: Result<AfterStep, ServeFault>) -> Result<Next, ServeFault
     }
 }
 
-/// The next input from the wire. None where no message is whole.
-fn next_input(
+/// What the decoder gives next. None where no message is whole.
+fn next_message(
     alloc: Global,
     rooms: &mut Rooms,
     decoder: &mut Decoder,
-) -> Result<Option<Act>, ServeFault>
-    ensures { NextInput decoder.old.pending decoder.new.pending result }
+) -> Option<Result<Message, WireFault>>
+    ensures { GivesHeard decoder.old.pending decoder.new.pending result }
 {
-    match decoder.next_in(alloc, &mut rooms.spare) {
-        Ok(None) => Ok(None),
-        Ok(Some(message)) => Ok(Some(Act::Takes(message))),
-        Err(WireFault::TooLarge(kind)) => Ok(Some(Act::Skips(kind))),
-        Err(WireFault::BadPrologue) => Ok(Some(Act::Refuses)),
-        Err(WireFault::NoMemory) => Err(ServeFault::NoMemory),
-    }
+    decoder.next_in(alloc, &mut rooms.spare).transpose()
 }
 
 impl<W: Sink, S: Sink, D: Desk> ChannelServer<'_, '_, '_, '_, W, S, D> {
@@ -102,12 +96,11 @@ impl<W: Sink, S: Sink, D: Desk> ChannelServer<'_, '_, '_, '_, W, S, D> {
         ensures stays { StaysServer self.old self.new }
     {
         loop {
-            let input = match next_input(self.alloc, self.rooms, self.decoder) {
-                Ok(Some(input)) => input,
-                Ok(None) => return Ok(AfterStep::Goes),
-                Err(fault) => return Err(fault),
+            let heard = match next_message(self.alloc, self.rooms, self.decoder) {
+                Some(heard) => heard,
+                None => return Ok(AfterStep::Goes),
             };
-            let processed = self.attend(input);
+            let processed = self.serve(heard);
             if !goes_on(processed) {
                 return processed;
             }
@@ -127,7 +120,7 @@ impl<W: Sink, S: Sink, D: Desk> ChannelServer<'_, '_, '_, '_, W, S, D> {
         match listen(reader, self.rooms, self.decoder) {
             Err(fault) => Err(fault),
             Ok(Received::End) => Ok(Next::Over),
-            Ok(Received::Paused) => conclude(self.attend(Act::Notices)),
+            Ok(Received::Paused) => conclude(self.notice()),
             Ok(Received::Bytes) => conclude(self.process_all()),
         }
     }

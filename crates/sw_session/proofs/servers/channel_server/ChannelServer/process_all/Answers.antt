@@ -1,30 +1,34 @@
-use Rattle.std.proofs.Common.{rules, Ok, sym, ◌∙◌}
-use Rattle.sw_session.specs.declared.servers.act.AfterStep.TheVariants.{Goes}
-use Rattle.sw_session.proofs.ServeWaysLemmas.{next-is, each-is, went-on, takes-on, hearing-start, hearing-on, all-over}
-use Rattle.sw_session.proofs.ServerLemmas.{stays-so, stays-on, each-so}
+use Rattle.std.proofs.Common.{Ok, Some, None, sym, ◌∙◌}
+use Rattle.sw_session.specs.declared.servers.after_step.AfterStep.TheVariants.{Goes}
+use Rattle.sw_session.proofs.ServeWaysLemmas.{gives-is, serves-is, went-on, heard-smaller, hearing-start, hearing-heard, all-processed, heard-over}
+use Rattle.sw_session.proofs.ServerLemmas.{stays-so, stays-on, serves-so}
 use Rattle.sw_session.proofs.servers.channel_server.ChannelServer.process_all.Goals as goal
 
-pub loop-input-init : goal.loop-input-init
-loop-input-init g c = record { hearing = hearing-start _ _ _; stays = stays-so _ }
+pub loop-heard-init : goal.loop-heard-init
+loop-heard-init g c = record { hearing = hearing-start _ _ _; stays = stays-so _ }
 
-pub loop-input-preserved : goal.loop-input-preserved
-loop-input-preserved g c = record {
-  hearing = rw c.attend-processed.ensures.decoder (hearing-on _ _ _ _ _ _ _ c.in-Ok-Some.input c.loop-input.invariant.hearing
-      (next-is _ _ c.next_input.result c.in-Ok-Some.input (search rules) c.next_input.ensures)
-      (each-is _ _ _ _ c.attend-processed.result (Ok Goes) (went-on _ (sym c.goes_on.ensures ∙ c.if-not-goes_on.false))
-      (each-so g.D.Desk.passes _ _ _ _ _ c.attend-processed.result c.loop-input.invariant.stays c.attend-processed.ensures.processed)));
-  stays = let on = c.attend-processed.ensures.stays in
-      stays-on _ _ _ c.loop-input.invariant.stays (record { own = on.own; desk = on.desk; writer = on.writer; side = on.side });
+pub returns-in-None-clause-processed : goal.returns-in-None-clause-processed
+returns-in-None-clause-processed g c =
+    all-processed _ _ _ _ _ _ c.loop-heard.invariant.hearing (gives-is _ _ c.next_message.result None c.in-None.is c.next_message.ensures)
+
+pub loop-heard-preserved : goal.loop-heard-preserved
+loop-heard-preserved g c = record {
+  hearing = rw c.serve-processed.ensures.decoder (hearing-heard _ _ _ _ _ _ _ c.in-Some.heard c.loop-heard.invariant.hearing
+      (gives-is _ _ c.next_message.result (Some c.in-Some.heard) c.in-Some.is c.next_message.ensures)
+      (serves-is _ c.in-Some.heard _ _ c.serve-processed.result (Ok Goes) (went-on _ (sym c.goes_on.ensures ∙ c.if-not-goes_on.false))
+      (serves-so g.D.Desk.passes _ _ c.in-Some.heard _ _ c.serve-processed.result c.loop-heard.invariant.stays c.serve-processed.ensures.served)));
+  stays = let on = c.serve-processed.ensures.stays in
+      stays-on _ _ _ c.loop-heard.invariant.stays (record { own = on.own; desk = on.desk; writer = on.writer; side = on.side });
 }
 
-pub loop-input-smaller : goal.loop-input-smaller
-loop-input-smaller g c = rw c.attend-processed.ensures.decoder (takes-on _ _ c.in-Ok-Some.input c.attend-processed.result
-    (next-is _ _ c.next_input.result c.in-Ok-Some.input (search rules) c.next_input.ensures)
-    (sym c.goes_on.ensures ∙ c.if-not-goes_on.false) c.attend-processed.ensures.judged)
+pub loop-heard-smaller : goal.loop-heard-smaller
+loop-heard-smaller g c = rw c.serve-processed.ensures.decoder (heard-smaller _ _ _ _ _ c.in-Some.heard
+    (gives-is _ _ c.next_message.result (Some c.in-Some.heard) c.in-Some.is c.next_message.ensures)
+    (serves-is _ c.in-Some.heard _ _ c.serve-processed.result (Ok Goes) (went-on _ (sym c.goes_on.ensures ∙ c.if-not-goes_on.false))
+    c.serve-processed.ensures.served))
 
 pub returns-then-not-goes_on-clause-processed : goal.returns-then-not-goes_on-clause-processed
-returns-then-not-goes_on-clause-processed g c = rw c.attend-processed.ensures.decoder (
-    all-over _ _ _ _ _ _ _ c.in-Ok-Some.input c.attend-processed.result (sym c.goes_on.ensures ∙ c.if-not-goes_on.true) c.loop-input.invariant.hearing
-    (next-is _ _ c.next_input.result c.in-Ok-Some.input (search rules) c.next_input.ensures)
-    (each-so g.D.Desk.passes _ _ _ _ _ c.attend-processed.result c.loop-input.invariant.stays c.attend-processed.ensures.processed)
-    c.attend-processed.ensures.judged)
+returns-then-not-goes_on-clause-processed g c = rw c.serve-processed.ensures.decoder (
+    heard-over _ _ _ _ _ _ _ c.in-Some.heard c.serve-processed.result (sym c.goes_on.ensures ∙ c.if-not-goes_on.true) c.loop-heard.invariant.hearing
+    (gives-is _ _ c.next_message.result (Some c.in-Some.heard) c.in-Some.is c.next_message.ensures)
+    (serves-so g.D.Desk.passes _ _ c.in-Some.heard _ _ c.serve-processed.result c.loop-heard.invariant.stays c.serve-processed.ensures.served))

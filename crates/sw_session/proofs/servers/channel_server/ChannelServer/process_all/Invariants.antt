@@ -3,12 +3,12 @@ use Rattle.sw_session.specs.Server.{voice_of, stands, StaysServer}
 use Rattle.sw_session.proofs.ServeWaysLemmas.{Hearing}
 use Rattle.sw_session.proofs.servers.channel_server.ChannelServer.process_all.Given as goal
 
-abbrev pub invariant-loop-input : goal.invariant-loop-input
-invariant-loop-input g l = record {
+abbrev pub invariant-loop-heard : goal.invariant-loop-heard
+invariant-loop-heard g l = record {
   hearing : Hearing (voice_of g.D.Desk.passes l.fn.self) l.fn.self.decoder.now.pending l.self.decoder.now.pending
       (stands g.W.Sink g.S.Sink l.fn.self) (stands g.W.Sink g.S.Sink l.self);
   stays : StaysServer l.fn.self l.self;
 }
 
-abbrev pub decreases-loop-input : goal.decreases-loop-input
-decreases-loop-input g l = length l.self.decoder.now.pending.bytes
+abbrev pub decreases-loop-heard : goal.decreases-loop-heard
+decreases-loop-heard g l = length l.self.decoder.now.pending.bytes
