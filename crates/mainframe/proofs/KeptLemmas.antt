@@ -113,22 +113,22 @@ strip-long text long = at (ends_with_byte 10 text)
     at true = omega (arith, length-take (length text - 1) text)
     at false = omega arith
 
-long-alike : (sid : Sid) (macros macros' : Table) (trace : List Entry) (bytes text text' : List ℕ) → most_bytes < length text → most_bytes < length text'
-    → TalksMessage sid macros text trace bytes macros' → TalksMessage sid macros text' trace bytes macros'
-long-alike sid macros macros' trace bytes text text' long long' t =
-    let Dropped : Type 0 = Overruns sid trace bytes × (macros' ≡ macros) in
-    subst (λ (b : Bool). MatchBool b Dropped (TalksUnits sid macros text' trace bytes macros')) (sym (lt-ltb most_bytes (length text') long'))
-    (subst (λ (b : Bool). MatchBool b Dropped (TalksUnits sid macros text trace bytes macros')) (lt-ltb most_bytes (length text) long) t)
+long-alike : (sid : Sid) (macros macros' : Table) (trace : List Entry) (bytes text text' : List ℕ) (lasts : Bool) → most_bytes < length text → most_bytes < length text'
+    → TalksMessage sid macros text trace bytes lasts macros' → TalksMessage sid macros text' trace bytes lasts macros'
+long-alike sid macros macros' trace bytes text text' lasts long long' t =
+    let Dropped : Type 0 = Overruns sid trace bytes lasts × (macros' ≡ macros) in
+    subst (λ (b : Bool). MatchBool b Dropped (TalksUnits sid macros text' trace bytes lasts macros')) (sym (lt-ltb most_bytes (length text') long'))
+    (subst (λ (b : Bool). MatchBool b Dropped (TalksUnits sid macros text trace bytes lasts macros')) (lt-ltb most_bytes (length text) long) t)
 
 -- what is kept of a line is answered as the line is
-pub talks-whole : (sid : Sid) (macros macros' : Table) (trace : List Entry) (bytes line : List ℕ)
-    → TalksMessage sid macros (strip_last 10 (take most_kept line)) trace bytes macros' → TalksMessage sid macros (strip_last 10 line) trace bytes macros'
-talks-whole sid macros macros' trace bytes line t = at (leb_tells (length line) most_kept)
+pub talks-whole : (sid : Sid) (macros macros' : Table) (trace : List Entry) (bytes line : List ℕ) (lasts : Bool)
+    → TalksMessage sid macros (strip_last 10 (take most_kept line)) trace bytes lasts macros' → TalksMessage sid macros (strip_last 10 line) trace bytes lasts macros'
+talks-whole sid macros macros' trace bytes line lasts t = at (leb_tells (length line) most_kept)
   where
     at : ((leb (length line) most_kept ≡ true) × (length line ≤ most_kept)) ⊎ ((leb (length line) most_kept ≡ false) × (most_kept < length line))
-        → TalksMessage sid macros (strip_last 10 line) trace bytes macros'
-    at (inl (e, short)) = subst (λ (l : List ℕ). TalksMessage sid macros (strip_last 10 l) trace bytes macros') (take_all most_kept line short) t
-    at (inr (e, long)) = long-alike sid macros macros' trace bytes (strip_last 10 (take most_kept line)) (strip_last 10 line)
+        → TalksMessage sid macros (strip_last 10 line) trace bytes lasts macros'
+    at (inl (e, short)) = subst (λ (l : List ℕ). TalksMessage sid macros (strip_last 10 l) trace bytes lasts macros') (take_all most_kept line short) t
+    at (inr (e, long)) = long-alike sid macros macros' trace bytes (strip_last 10 (take most_kept line)) (strip_last 10 line) lasts
         (strip-long (take most_kept line) (omega (arith, length-take most_kept line))) (strip-long line (omega arith)) t
 
 pub talked-whole : (p q : RunState) (sid : Sid) (line bytes : List ℕ) → Talked CorePasses sid p (take most_kept line) bytes q
@@ -136,7 +136,8 @@ pub talked-whole : (p q : RunState) (sid : Sid) (line bytes : List ℕ) → Talk
 talked-whole p q sid line bytes t = record {
   trace = t.trace;
   leads = t.leads;
-  talks = talks-whole sid p.macros q.macros t.trace bytes line t.talks;
+  lasts = t.lasts;
+  talks = talks-whole sid p.macros q.macros t.trace bytes line t.lasts t.talks;
 }
 
 -- nothing is kept at the end of the input alone

@@ -284,10 +284,10 @@ same-run once d d' q q' b b' (e ∷ t) (e' ∷ t') (mid, (cs, p), l) (mid', (cs'
 
 pub core-talk-determined : StepIsDetermined → TalkIsDetermined → CoreTalkIsDetermined
 core-talk-determined once talk sid old old' new new' message bytes bytes' t t' desks macros ample ample' smooth smooth' outcomes =
-    let talks = subst (λ (m : Table). TalksMessage sid m (strip_last 10 message) t'.trace bytes' new'.macros) (sym macros) t'.talks in
+    let talks = subst (λ (m : Table). TalksMessage sid m (strip_last 10 message) t'.trace bytes' t'.lasts new'.macros) (sym macros) t'.talks in
     let one = same-run once old.desk old'.desk new.desk new'.desk (left bytes new.macros) (left bytes' new'.macros) t.trace t'.trace t.leads t'.leads
     desks smooth smooth' outcomes
-    (talk sid old.macros (strip_last 10 message) t.trace t'.trace bytes bytes' new.macros new'.macros t.talks talks ample ample') in
+    (talk sid old.macros (strip_last 10 message) t.trace t'.trace bytes bytes' t.lasts t'.lasts new.macros new'.macros t.talks talks ample ample') in
     (one.0, ap (λ (x : Left). x.bytes) one.1, ap (λ (x : Left). x.macros) one.1, one.2)
 
 -- two rests wait alike until one is over

@@ -502,11 +502,11 @@ left-same : (bytes bytes' : List ℕ) (macros macros' : Table) → bytes ≡ byt
 left-same bytes bytes' macros macros' b m = ap (λ (x : List ℕ). left x macros) b ∙ ap (λ (x : Table). left bytes' x) m
 
 pub talk-determined : ReadsOnce → TalkIsDetermined
-talk-determined reads sid macros text t t' bytes bytes' kept kept' p q =
+talk-determined reads sid macros text t t' bytes bytes' lasts lasts' kept kept' p q =
     let b = left bytes kept in
     let b' = left bytes' kept' in
-    either-way (nat_lt most_bytes (length text)) (Overruns sid t bytes × (kept ≡ macros)) (TalksUnits sid macros text t bytes kept) (Overruns sid t' bytes'
-    × (kept' ≡ macros)) (TalksUnits sid macros text t' bytes' kept') p q
+    either-way (nat_lt most_bytes (length text)) (Overruns sid t bytes lasts × (kept ≡ macros)) (TalksUnits sid macros text t bytes lasts kept)
+    (Overruns sid t' bytes' lasts' × (kept' ≡ macros)) (TalksUnits sid macros text t' bytes' lasts' kept') p q
     (λ o o'. queues-same b b' sid InputBufferOverrun t t' [] [] o.0.0 o'.0.0 o.0.1 o'.0.1 (λ same.
     nothing-left b b' (left-same bytes bytes' kept kept' (o.0.2 ∙ sym o'.0.2) (o.1 ∙ sym o'.1))))
     (λ k k'. talks-same b b' (Expanded sid) reads (expanded-same b b' reads sid) sid text k.units k'.units k.ending k'.ending (standing [] macros [] t)

@@ -56,32 +56,32 @@ strip-long text long = at (ends_with_byte 10 text)
     at false = omega arith
 
 -- texts that are too long are dropped alike
-long-alike : (sid : Sid) (macros macros' : Table) (trace : List Entry) (bytes text text' : List ℕ) → most_bytes < length text → most_bytes < length text'
-    → TalksMessage sid macros text trace bytes macros' → TalksMessage sid macros text' trace bytes macros'
-long-alike sid macros macros' trace bytes text text' long long' t =
-    let Dropped : Type 0 = Overruns sid trace bytes × (macros' ≡ macros) in
-    subst (λ (b : Bool). MatchBool b Dropped (TalksUnits sid macros text' trace bytes macros')) (sym (lt-ltb most_bytes (length text') long'))
-    (subst (λ (b : Bool). MatchBool b Dropped (TalksUnits sid macros text trace bytes macros')) (lt-ltb most_bytes (length text) long) t)
+long-alike : (sid : Sid) (macros macros' : Table) (trace : List Entry) (bytes text text' : List ℕ) (lasts : Bool) → most_bytes < length text → most_bytes < length text'
+    → TalksMessage sid macros text trace bytes lasts macros' → TalksMessage sid macros text' trace bytes lasts macros'
+long-alike sid macros macros' trace bytes text text' lasts long long' t =
+    let Dropped : Type 0 = Overruns sid trace bytes lasts × (macros' ≡ macros) in
+    subst (λ (b : Bool). MatchBool b Dropped (TalksUnits sid macros text' trace bytes lasts macros')) (sym (lt-ltb most_bytes (length text') long'))
+    (subst (λ (b : Bool). MatchBool b Dropped (TalksUnits sid macros text trace bytes lasts macros')) (lt-ltb most_bytes (length text) long) t)
 
 -- what is kept of a text is talked over as the text is
 kept-alike : (text : List ℕ) → IsSameMessage (take most_kept text) text
-kept-alike text sid macros macros' trace bytes = at (leb_tells (length text) most_kept)
+kept-alike text sid macros macros' trace bytes lasts = at (leb_tells (length text) most_kept)
   where
     kept : List ℕ
     kept = take most_kept text
 
     at : ((leb (length text) most_kept ≡ true) × (length text ≤ most_kept)) ⊎ ((leb (length text) most_kept ≡ false) × (most_kept < length text))
-        → TalksMessage sid macros (strip_last 10 kept) trace bytes macros' ↔ TalksMessage sid macros (strip_last 10 text) trace bytes macros'
+        → TalksMessage sid macros (strip_last 10 kept) trace bytes lasts macros' ↔ TalksMessage sid macros (strip_last 10 text) trace bytes lasts macros'
     at (inl (e, short)) =
         let same : kept ≡ text = take_all most_kept text short in (
-          λ t. subst (λ (l : List ℕ). TalksMessage sid macros (strip_last 10 l) trace bytes macros') same t,
-          λ t. subst (λ (l : List ℕ). TalksMessage sid macros (strip_last 10 l) trace bytes macros') (sym same) t,
+          λ t. subst (λ (l : List ℕ). TalksMessage sid macros (strip_last 10 l) trace bytes lasts macros') same t,
+          λ t. subst (λ (l : List ℕ). TalksMessage sid macros (strip_last 10 l) trace bytes lasts macros') (sym same) t,
         )
     at (inr (e, long)) =
         let cut = strip-long kept (omega (arith, length-take most_kept text)) in
         let all = strip-long text (omega arith) in (
-          λ t. long-alike sid macros macros' trace bytes (strip_last 10 kept) (strip_last 10 text) cut all t,
-          λ t. long-alike sid macros macros' trace bytes (strip_last 10 text) (strip_last 10 kept) all cut t,
+          λ t. long-alike sid macros macros' trace bytes (strip_last 10 kept) (strip_last 10 text) lasts cut all t,
+          λ t. long-alike sid macros macros' trace bytes (strip_last 10 text) (strip_last 10 kept) lasts all cut t,
         )
 
 pub parts-are-one : PartsAreOneMessage

@@ -1,7 +1,7 @@
 -- Whole rows of the synchronous channel.
 use Prim.{tt}
 use Rattle.std.proofs.Common.{◌≡◌, ℕ, Bool, true, false, MatchBool, List, [], ◌∷◌, ◌++◌, Option, None, Some, Result, Ok, Err, IfOk, IfSome, refl, sym, ap}
-use Rattle.std.proofs.Common.{subst, ◌∙◌, append-nil}
+use Rattle.std.proofs.Common.{subst, ◌∙◌, append-nil, not, ◌<◌, length, arith}
 use Rattle.sw_macro.specs.Table.{Table}
 use Rattle.sw_hislip.specs.declared.message.Message.{Message}
 use Rattle.sw_core.specs.declared.ask.Sid.{Sid}
@@ -17,28 +17,56 @@ use Rattle.sw_session.specs.Said.{StepSeen}
 use Rattle.sw_session.specs.declared.engine.synchronous.Delivery.{Delivery}
 use Rattle.sw_session.specs.EngineKinds.{sync_request}
 use Rattle.sw_session.specs.EngineStep.{LedBy, Unasked, goes, over, joined, reply_step}
-use Rattle.sw_session.specs.EngineSync.{SyncStanding, Answers, Converses, SaysMore, Finishes, Triggers, Programs, Attended, ServesProgram, Attends, gate_step}
+use Rattle.sw_session.specs.EngineSync.{SyncStanding, Answers, SaysAnswer, Converses, SaysMore, Finishes, Triggers, Programs, Attended, ServesProgram, Attends, gate_step}
 use Rattle.sw_session.specs.EngineSync.{Delivers, delivery_step, said_by_delivery, is_within, is_program, with_part, whole, RepliesSync, TakesSync}
 use Rattle.sw_session.specs.Talk.{Talked, state}
-use Rattle.sw_session.specs.Trace.{Entry, Asked, Led}
+use Rattle.sw_session.specs.Trace.{Entry, Asked, Led, Leads}
 use Rattle.sw_session.proofs.LedLemmas.{leads-append}
 
--- a program message was talked over, the size asked, and its answer given
+-- a program message was talked over, and its answer given
 pub converses : {D : Type 0} (passes : D → Entry → D → Type 0) (old mid new : D) (sid talker : Sid) (macros macros' : Table) (attached : Bool)
     (partial : PartialMessage)
-    (said : List Sent) (id : ℕ) (text bytes : List ℕ) (size : SessionAnswer) (step : StepSeen)
-    → talker ≡ sid → Talked passes talker (state old macros) text bytes (state mid macros') → passes mid (Asked (Ask.MaxSize sid) size) new
-    → SaysMore said step (λ own. Answers id bytes size own)
+    (said : List Sent) (id : ℕ) (text bytes : List ℕ) (lasts : Bool) (rest : List Entry) (step : StepSeen)
+    → talker ≡ sid → (t : Talked passes talker (state old macros) text bytes (state mid macros')) × (t.lasts ≡ lasts) → Leads passes mid rest new
+    → SaysMore said step (λ own. SaysAnswer sid id bytes lasts rest own)
     → LedBy passes old new (λ asked.
     SaysMore said step (λ own. Converses (record { sid = sid; macros = macros; attached = attached; partial = partial }) id text asked own macros'))
-converses passes old mid new sid talker macros macros' attached partial said id text bytes size step is talked p more =
-    let t : Talked passes sid (state old macros) text bytes (state mid macros') =
-    subst (λ (s : Sid). Talked passes s (state old macros) text bytes (state mid macros')) is talked in
+converses passes old mid new sid talker macros macros' attached partial said id text bytes lasts rest step is talked p more =
+    let t : (t : Talked passes sid (state old macros) text bytes (state mid macros')) × (t.lasts ≡ lasts) =
+    subst (λ (s : Sid). (t : Talked passes s (state old macros) text bytes (state mid macros')) × (t.lasts ≡ lasts)) is talked in
     record {
-      asked = t.trace ++ Asked (Ask.MaxSize sid) size ∷ [];
-      leads = leads-append passes old mid new t.trace (Asked (Ask.MaxSize sid) size ∷ []) t.leads (new, p, refl);
-      admits = (more.0, record { talk = t.trace; told = size; asks = refl; bytes = bytes; talks = t.talks; answers = more.1 }, more.2);
+      asked = t.0.trace ++ rest;
+      leads = leads-append passes old mid new t.0.trace rest t.0.leads p;
+      admits = (
+        more.0,
+        record {
+          talk = t.0.trace;
+          rest = rest;
+          asks = refl;
+          bytes = bytes;
+          lasts = t.0.lasts;
+          talks = t.0.talks;
+          says = subst (λ (b : Bool). SaysAnswer sid id bytes b rest more.0) (sym t.1) more.1;
+        },
+        more.2,
+      );
     }
+
+-- nothing was answered, and the session lasts
+pub says-none : (sid : Sid) (said : List Sent) (id : ℕ) (bytes : List ℕ) (lasts : Bool) (step : StepSeen) → length bytes ≡ 0 → lasts ≡ true
+    → step ≡ joined (goes said) (goes []) → SaysMore said step (λ own. SaysAnswer sid id bytes lasts [] own)
+says-none sid said id [] true step none is told = (goes [], (refl, refl), told)
+says-none sid said id [] false step none is told = absurd (cc (is))
+says-none sid said id (b ∷ bytes) lasts step none is told = absurd (cc (none))
+
+-- something was, or it may not last, and the size is asked
+pub says-some : (sid : Sid) (said : List Sent) (id : ℕ) (bytes : List ℕ) (lasts : Bool) (size : SessionAnswer) (step : StepSeen)
+    → (lasts ≡ true → 0 < length bytes)
+    → SaysMore said step (λ own. Answers id bytes size own)
+    → SaysMore said step (λ own. SaysAnswer sid id bytes lasts (Asked (Ask.MaxSize sid) size ∷ []) own)
+says-some sid said id [] true size step some more = let s = some refl in absurd (omega (arith, s))
+says-some sid said id [] false size step some more = (more.0, (size, refl, more.1), more.2)
+says-some sid said id (b ∷ bytes) lasts size step some more = (more.0, (size, refl, more.1), more.2)
 
 -- the message is whole, or is dropped whole
 pub finishes-some : {D : Type 0} (passes : D → Entry → D → Type 0) (old new : D) (s mid s' : SyncStanding) (said : List Sent) (id : ℕ) (text : List ℕ)
@@ -56,7 +84,7 @@ finishes-some passes old new s mid s' said id text all step is between became h 
       let put : SyncStanding → SyncStanding = λ t. record t { macros = s'.macros } in (
         own,
         subst (λ (o : Option (List ℕ)). Finishes s id o h.asked own s') (sym is)
-            (record { talk = c.talk; told = c.told; asks = c.asks; bytes = c.bytes; talks = c.talks; answers = c.answers }, became ∙ ap put between),
+            (record { talk = c.talk; rest = c.rest; asks = c.asks; bytes = c.bytes; lasts = c.lasts; talks = c.talks; says = c.says }, became ∙ ap put between),
         h.admits.2,
       );
 }

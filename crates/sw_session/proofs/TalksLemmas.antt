@@ -26,7 +26,7 @@ use Rattle.sw_session.specs.Script.{Ending, Complete, EndsRefused, EndsUnread, I
 use Rattle.sw_session.specs.Talk.{Queues, Settles, Begins, begun_with, Concludes, ServesUnit, Standing, standing, Proceeds, Way, Talks, Itself, TalksExpansion}
 use Rattle.sw_session.specs.Talk.{IsExpansion}
 use Rattle.sw_session.specs.Talk.{Expanded, TalksUnits, TalksMessage, Talked, Overruns, TalkerStanding, stands_at, OnLine, TalksLine}
-use Rattle.sw_session.specs.Talk.{has_answers, answer_line, written}
+use Rattle.sw_session.specs.Talk.{has_answers, answer_line, written, lasts_after, after_unit}
 use Rattle.sw_session.specs.Talk.{state, turns}
 use Rattle.sw_session.proofs.LedLemmas.{led-none, led-one, led-so, led-more, led-then}
 
@@ -278,14 +278,14 @@ expanded-fault passes a b sid u e after is x on =
 -- a message that isn't too long, over a trace after which nothing is left
 pub talked-units : {D : Type 0} (passes : D → Entry → D
     → Type 0) (old new : D) (sid : Sid) (macros macros' : Table) (message text bytes : List ℕ) (units : List UnitSeen)
-    (ending : Ending) (after : AfterUnit) (path : Nodes) (answers : List (List ℕ)) → text ≡ strip_last 10 message → length text ≤ most_bytes
+    (ending : Ending) (after : AfterUnit) (lasts : Bool) (path : Nodes) (answers : List (List ℕ)) → text ≡ strip_last 10 message → length text ≤ most_bytes
     → IsScript text units ending
-    → bytes ≡ written after answers
+    → bytes ≡ written after answers → lasts ≡ lasts_after after
     → Led passes old new (λ t rest. Talks (Expanded sid) sid units ending (standing [] macros [] t) after (standing path macros' answers rest))
-    → Talked passes sid (state old macros) message bytes (state new macros')
-talked-units passes old new sid macros macros' message text bytes units ending after path answers is few script writes led =
+    → (t : Talked passes sid (state old macros) message bytes (state new macros')) × (t.lasts ≡ lasts)
+talked-units passes old new sid macros macros' message text bytes units ending after lasts path answers is few script writes kept led =
     let short : nat_lt most_bytes (length text) ≡ false = grind (arith, nat_tests) in
-    let talk : TalksUnits sid macros text led.trace bytes macros' = record {
+    let talk : TalksUnits sid macros text led.trace bytes lasts macros' = record {
       units = units;
       ending = ending;
       script = script;
@@ -295,39 +295,52 @@ talked-units passes old new sid macros macros' message text bytes units ending a
       talks = subst (λ (t : List Entry).
           Talks (Expanded sid) sid units ending (standing [] macros [] t) after (standing path macros' answers [])) (append-nil led.trace) (led.admits []);
       writes = writes;
+      lasts_is = kept;
     } in
-    let all : TalksMessage sid macros text led.trace bytes macros' =
-    subst (λ (b : Bool). MatchBool b (Overruns sid led.trace bytes
-    × (macros' ≡ macros)) (TalksUnits sid macros text led.trace bytes macros')) (sym short) talk in
-    record {
-      trace = led.trace;
-      leads = led.leads;
-      talks = subst (λ (t : List ℕ). TalksMessage sid macros t led.trace bytes macros') is all;
-    }
+    let all : TalksMessage sid macros text led.trace bytes lasts macros' =
+    subst (λ (b : Bool). MatchBool b (Overruns sid led.trace bytes lasts
+    × (macros' ≡ macros)) (TalksUnits sid macros text led.trace bytes lasts macros')) (sym short) talk in (
+      record {
+        trace = led.trace;
+        leads = led.leads;
+        lasts = lasts;
+        talks = subst (λ (t : List ℕ). TalksMessage sid macros t led.trace bytes lasts macros') is all;
+      },
+      refl,
+    )
 
 -- a message that is too long
 pub talked-overrun : {D : Type 0} (passes : D → Entry → D
-    → Type 0) (old new : D) (sid : Sid) (macros macros' : Table) (message text bytes : List ℕ) (final : SessionAnswer) → text ≡ strip_last 10 message
+    → Type 0) (old new : D) (sid : Sid) (macros macros' : Table) (message text bytes : List ℕ) (final : SessionAnswer) (lasts : Bool)
+    → text ≡ strip_last 10 message
     → most_bytes < length text
-    → bytes ≡ [] → macros' ≡ macros → Led passes old new (λ t rest. Queues sid InputBufferOverrun t final rest)
-    → Talked passes sid (state old macros) message bytes (state new macros')
-talked-overrun passes old new sid macros macros' message text bytes final is much writes kept led =
+    → bytes ≡ [] → lasts ≡ lasts_after (after_unit final) → macros' ≡ macros → Led passes old new (λ t rest. Queues sid InputBufferOverrun t final rest)
+    → (t : Talked passes sid (state old macros) message bytes (state new macros')) × (t.lasts ≡ lasts)
+talked-overrun passes old new sid macros macros' message text bytes final lasts is much writes told kept led =
     let long : nat_lt most_bytes (length text) ≡ true = grind (arith, nat_tests) in
-    let over : Overruns sid led.trace bytes =
-    (final, subst (λ (t : List Entry). Queues sid InputBufferOverrun t final []) (append-nil led.trace) (led.admits []), writes) in
-    let all : TalksMessage sid macros text led.trace bytes macros' =
-    subst (λ (b : Bool). MatchBool b (Overruns sid led.trace bytes
-    × (macros' ≡ macros)) (TalksUnits sid macros text led.trace bytes macros')) (sym long) (over, kept) in
-    record {
-      trace = led.trace;
-      leads = led.leads;
-      talks = subst (λ (t : List ℕ). TalksMessage sid macros t led.trace bytes macros') is all;
-    }
+    let over : Overruns sid led.trace bytes lasts =
+    (final, subst (λ (t : List Entry). Queues sid InputBufferOverrun t final []) (append-nil led.trace) (led.admits []), writes, told) in
+    let all : TalksMessage sid macros text led.trace bytes lasts macros' =
+    subst (λ (b : Bool). MatchBool b (Overruns sid led.trace bytes lasts
+    × (macros' ≡ macros)) (TalksUnits sid macros text led.trace bytes lasts macros')) (sym long) (over, kept) in (
+      record {
+        trace = led.trace;
+        leads = led.leads;
+        lasts = lasts;
+        talks = subst (λ (t : List ℕ). TalksMessage sid macros t led.trace bytes lasts macros') is all;
+      },
+      refl,
+    )
 
 pub written-ends : (after : AfterUnit) (answers : List (List ℕ)) (bytes : List ℕ) → after ≡ Ends → bytes ≡ [] → bytes ≡ written after answers
 written-ends Goes answers bytes is none = absurd (cc (is))
 written-ends Drops answers bytes is none = absurd (cc (is))
 written-ends Ends answers bytes is none = none
+
+pub lasts-on : (after : AfterUnit) → (after ≡ Ends → ⊥) → true ≡ lasts_after after
+lasts-on Goes goes = refl
+lasts-on Drops goes = refl
+lasts-on Ends goes = absurd (goes refl)
 
 pub written-line : (after : AfterUnit) (answers : List (List ℕ)) (bytes : List ℕ) → (after ≡ Ends → ⊥) → bytes ≡ answer_line answers
     → bytes ≡ written after answers

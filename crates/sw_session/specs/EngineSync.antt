@@ -176,15 +176,27 @@ Answers id bytes (Max size) step = (parts : List Message) × CutsTo size id byte
     × (step ≡ goes (map (on Synchronous) parts))
 Answers id bytes told step = step ≡ over
 
--- A whole program message is carried out. Then the channel asks for the client's size, and says the answer.
+-- The client's size is asked, and the answer is said.
+abbrev pub AsksSize : Sid → ℕ → List ℕ → List Entry → StepSeen → Type 0
+AsksSize sid id bytes asked step =
+    (told : SessionAnswer) × (asked ≡ Asked (Ask.MaxSize sid) told ∷ []) × Answers id bytes told step
+
+-- Nothing more is asked where there is no answer, and the session lasts as far as the talk told.
+abbrev pub SaysAnswer : Sid → ℕ → List ℕ → Bool → List Entry → StepSeen → Type 0
+SaysAnswer sid id [] true asked step = Unasked (goes []) asked step
+SaysAnswer sid id [] false asked step = AsksSize sid id [] asked step
+SaysAnswer sid id (b ∷ bytes) lasts asked step = AsksSize sid id (b ∷ bytes) asked step
+
+-- A whole program message is carried out. Then the channel says the answer.
 pub record Converses (s : SyncStanding) (id : ℕ) (text : List ℕ) (asked : List Entry) (step : StepSeen)
     (macros : Table) : Type 0 where
   pub talk : List Entry
-  pub told : SessionAnswer
-  pub asks : asked ≡ talk ++ Asked (Ask.MaxSize s.sid) told ∷ []
+  pub rest : List Entry
+  pub asks : asked ≡ talk ++ rest
   pub bytes : List ℕ
-  pub talks : TalksMessage s.sid s.macros (strip_last 10 text) talk bytes macros
-  pub answers : Answers id bytes told step
+  pub lasts : Bool
+  pub talks : TalksMessage s.sid s.macros (strip_last 10 text) talk bytes lasts macros
+  pub says : SaysAnswer s.sid id bytes lasts rest step
 
 -- DataEnd: the message is whole, or is dropped whole
 abbrev pub Finishes : SyncStanding → ℕ → Option (List ℕ) → List Entry → StepSeen → SyncStanding → Type 0

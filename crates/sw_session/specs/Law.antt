@@ -1,5 +1,5 @@
 -- A talk leaves no choice, and a message that comes in parts is one message.
-use Rattle.std.specs.Prelude.{◌≡◌, ◌≢◌, ℕ, ◌≤◌, List, [], ◌∷◌, ◌++◌, length, replicate, true, Option, Some, None}
+use Rattle.std.specs.Prelude.{Bool, ◌≡◌, ◌≢◌, ℕ, ◌≤◌, List, [], ◌∷◌, ◌++◌, length, replicate, true, Option, Some, None}
 use Rattle.std.specs.Prelude.{Result}
 use Rattle.std.specs.Prelude.{◌↔◌}
 use Rattle.std.specs.List.{AllByRecursion, concat}
@@ -58,8 +58,8 @@ left bytes macros = record { bytes = bytes; macros = macros }
 -- where no growth was refused.
 abbrev pub TalkIsDetermined : Type 0
 TalkIsDetermined = (sid : Sid) (macros : Table) (text : List ℕ) (trace trace' : List Entry) (bytes bytes' : List ℕ)
-    (kept kept' : Table) → TalksMessage sid macros text trace bytes kept
-    → TalksMessage sid macros text trace' bytes' kept' → AllAmple trace → AllAmple trace'
+    (lasts lasts' : Bool) (kept kept' : Table) → TalksMessage sid macros text trace bytes lasts kept
+    → TalksMessage sid macros text trace' bytes' lasts' kept' → AllAmple trace → AllAmple trace'
     → SameTalk (left bytes kept) (left bytes' kept') trace trace'
 
 -- the mainframe reports no want of memory
@@ -168,8 +168,8 @@ with_parts partial (part ∷ parts) = with_parts (with_part partial part) parts
 -- The talk about the one message is the talk about the other.
 abbrev pub IsSameMessage : List ℕ → List ℕ → Type 0
 IsSameMessage text text' = (sid : Sid) (macros macros' : Table) (trace : List Entry) (bytes : List ℕ)
-    → TalksMessage sid macros (strip_last 10 text) trace bytes macros'
-    ↔ TalksMessage sid macros (strip_last 10 text') trace bytes macros'
+    (lasts : Bool) → TalksMessage sid macros (strip_last 10 text) trace bytes lasts macros'
+    ↔ TalksMessage sid macros (strip_last 10 text') trace bytes lasts macros'
 
 -- A program message that came in parts, none of them skipped, is talked over as all their bytes, however many they are.
 abbrev pub PartsAreOneMessage : Type 0

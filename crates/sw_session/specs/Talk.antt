@@ -280,13 +280,21 @@ written Goes answers = answer_line answers
 written Drops answers = answer_line answers
 written Ends answers = []
 
+-- As far as the answers tell, the session lasts: it is not being cleared, is joined still, and more can be numbered.
+abbrev pub lasts_after : AfterUnit → Bool
+lasts_after Goes = true
+lasts_after Drops = true
+lasts_after Ends = false
+
 -- a message that is too long is dropped whole
-abbrev pub Overruns : Sid → List Entry → List ℕ → Type 0
-Overruns sid trace bytes = (final : SessionAnswer) × Queues sid InputBufferOverrun trace final [] × (bytes ≡ [])
+abbrev pub Overruns : Sid → List Entry → List ℕ → Bool → Type 0
+Overruns sid trace bytes lasts =
+    (final : SessionAnswer) × Queues sid InputBufferOverrun trace final [] × (bytes ≡ [])
+    × (lasts ≡ lasts_after (after_unit final))
 
 -- the units of a message are carried out from the root, and nothing else is asked
 pub record TalksUnits (sid : Sid) (macros : Table) (text : List ℕ) (trace : List Entry) (bytes : List ℕ)
-    (macros' : Table) : Type 0 where
+    (lasts : Bool) (macros' : Table) : Type 0 where
   pub units : List UnitSeen
   pub ending : Ending
   pub script : IsScript text units ending
@@ -296,13 +304,14 @@ pub record TalksUnits (sid : Sid) (macros : Table) (text : List ℕ) (trace : Li
   pub talks :
       Talks (Expanded sid) sid units ending (standing [] macros [] trace) after (standing path macros' answers [])
   pub writes : bytes ≡ written after answers
+  pub lasts_is : lasts ≡ lasts_after after
 
--- a message without its line feed is carried out, from these macros to those after it
-abbrev pub TalksMessage : Sid → Table → List ℕ → List Entry → List ℕ → Table → Type 0
-TalksMessage sid macros text trace bytes macros' =
+-- A message without its line feed is carried out, from these macros to those after it; whether the session lasts.
+abbrev pub TalksMessage : Sid → Table → List ℕ → List Entry → List ℕ → Bool → Table → Type 0
+TalksMessage sid macros text trace bytes lasts macros' =
     MatchBool (nat_lt most_bytes (length text))
-    (Overruns sid trace bytes × (macros' ≡ macros))
-    (TalksUnits sid macros text trace bytes macros')
+    (Overruns sid trace bytes lasts × (macros' ≡ macros))
+    (TalksUnits sid macros text trace bytes lasts macros')
 
 -- the state of a session between two messages: its desk and its macros
 pub record TalkState (D : Type 0) : Type 0 where
@@ -318,7 +327,8 @@ pub record Talked {D : Type 0} (passes : D → Entry → D → Type 0) (sid : Si
     (message bytes : List ℕ) (new : TalkState D) : Type 0 where
   pub trace : List Entry
   pub leads : Leads passes old.desk trace new.desk
-  pub talks : TalksMessage sid old.macros (strip_last 10 message) trace bytes new.macros
+  pub lasts : Bool
+  pub talks : TalksMessage sid old.macros (strip_last 10 message) trace bytes lasts new.macros
 
 -- The clauses of the talker's parts.
 

@@ -7,7 +7,7 @@ ghost use Rattle.sw_lex.specs.Unit.{unit_of};
 ghost use Rattle.sw_lex.specs.Meaning.{Nodes, path_of};
 ghost use Rattle.sw_macro.specs.Table.{Table, no_macros};
 ghost use Rattle.sw_session.specs.Talk.{Talked, TalksLine, OnLine, Itself, Expanded, ServesUnit, ConcludesLine};
-ghost use Rattle.sw_session.specs.Talk.{state, talker_at, after_unit, is_command_error, TellsAnswered, is_own};
+ghost use Rattle.sw_session.specs.Talk.{state, talker_at, after_unit, lasts_after, is_command_error, TellsAnswered, is_own};
 ghost use Rattle.sw_session.specs.Talk.{reads_out};
 
 use crate::asking::{ask_command, carry_out, is_own, queue, reads_out};
@@ -68,9 +68,19 @@ impl Talker {
             text.now result.items (state desk.new self.new.macros) }
         ensures same { self.new.sid ≡ self.old.sid }
     {
-        let mut answers = mem::replace(&mut self.line, Vec::new(self.alloc));
-        self.message_into(text, desk, &mut answers);
+        let (answers, _) = self.talk_over(text, desk);
         answers
+    }
+
+    /// The answers to one program message, as `message` gives them, and whether the session lasts, as `message_into` tells.
+    pub(crate) fn talk_over<D: Desk>(&mut self, text: &[u8], desk: &mut D) -> (Vec<u8>, bool)
+        ensures talked { (t : Talked D.passes self.old.sid (state desk.old self.old.macros)
+            text.now result.0.items (state desk.new self.new.macros)) × (t.lasts ≡ result.1) }
+        ensures same { self.new.sid ≡ self.old.sid }
+    {
+        let mut answers = mem::replace(&mut self.line, Vec::new(self.alloc));
+        let lasts = self.message_into(text, desk, &mut answers);
+        (answers, lasts)
     }
 
     /// Uses this memory for the answers to the next message, and drops what is in it.
@@ -82,10 +92,11 @@ impl Talker {
     }
 
     /// Talks over one program message as `message` does, and leaves the answers in `out` in place of what was there.
-    /// Its memory is used again, where it is no more than `KEPT_BYTES`.
-    pub fn message_into<D: Desk>(&mut self, text: &[u8], desk: &mut D, out: &mut Vec<u8>)
-        ensures talked { Talked D.passes self.old.sid (state desk.old self.old.macros)
-            text.now out.new.items (state desk.new self.new.macros) }
+    /// Its memory is used again, where it is no more than `KEPT_BYTES`. It is false where the desk has answered that the session
+    /// is being cleared, is joined no more, or that nothing more can be numbered.
+    pub fn message_into<D: Desk>(&mut self, text: &[u8], desk: &mut D, out: &mut Vec<u8>) -> bool
+        ensures talked { (t : Talked D.passes self.old.sid (state desk.old self.old.macros)
+            text.now out.new.items (state desk.new self.new.macros)) × (t.lasts ≡ result) }
         ensures same { self.new.sid ≡ self.old.sid }
     {
         if out.capacity() > KEPT_BYTES {
@@ -94,13 +105,14 @@ impl Talker {
         out.clear();
         let text = without_line_feed(text);
         if text.len() > MESSAGE_BYTES {
-            drop(queue(desk, self.sid, ScpiError::InputBufferOverrun));
-            return;
+            return lasts(go_on(queue(desk, self.sid, ScpiError::InputBufferOverrun)));
         }
         let mut path = Path::root();
         if let AfterUnit::Ends = self.talk::<ByExpansion, D>(desk, text, &mut path, out) {
             out.clear();
+            return false;
         }
+        true
     }
 
     /// Talks over the units of a text, each in this way, below this path.
@@ -378,6 +390,13 @@ pub enum AfterUnit {
     Drops,
     /// The session is none any more: the rest is dropped, and nothing is written.
     Ends,
+}
+
+/// Whether the session lasts, as far as the desk's answers tell.
+fn lasts(after: AfterUnit) -> bool
+    ensures { result ≡ lasts_after after }
+{
+    matches!(after, AfterUnit::Goes | AfterUnit::Drops)
 }
 
 /// Whether anything was answered.

@@ -27,3 +27,5 @@ mod pauses;
 mod room;
 #[cfg(test)]
 mod servers;
+#[cfg(test)]
+mod sizes;

@@ -1,6 +1,6 @@
 //! The synchronous channel of a session after its first message: program messages in parts, and their answers.
 
-ghost use Rattle.std.specs.Prelude.{◌≡◌, ◌≤◌, List, [], map, true, false, IfOk, OnErr, vec_capacity};
+ghost use Rattle.std.specs.Prelude.{◌≡◌, ◌<◌, ◌≤◌, List, [], length, map, true, false, IfOk, OnErr, vec_capacity};
 ghost use Rattle.sw_session.specs.EngineSync as EngineSync;
 ghost use Rattle.sw_session.specs.EngineStep.{LedBy, on, goes, joined, reply_step};
 ghost use Rattle.sw_session.specs.EngineSync.{newly_joined, TakesSync, RepliesSync, Completes, message_completed};
@@ -272,8 +272,8 @@ impl SyncSession {
         }
     }
 
-    /// Talks over a program message, and says its answer in parts of the client's size. The next answer reuses the
-    /// message's memory.
+    /// Talks over a program message, and says its answer, if there is one, in parts of the client's size. The next
+    /// answer reuses the message's memory.
     fn converse<D: Desk>(
         &mut self,
         id: u32,
@@ -285,8 +285,11 @@ impl SyncSession {
             SaysMore said.items result (λ own. Converses self.old id text asked own self.new.macros)) }
         ensures kept { self.new ≡ record self.old { macros = self.new.macros } }
     {
-        let bytes = self.talker.message(text.as_slice(), desk);
+        let (bytes, lasts) = self.talker.talk_over(text.as_slice(), desk);
         self.talker.reuse(text.into_vec());
+        if is_silent(&bytes, lasts) {
+            return told(said, false);
+        }
         let mut size = SessionAnswer::Stranger;
         desk.ask_into(SessionAsk::MaxSize(self.sid), &mut size);
         respond(id, bytes, size, said)
@@ -336,6 +339,14 @@ fn interruption(alloc: Global, room: Vec<Sent>, id: u32, delivery: Delivery) -> 
         said.push(Sent { channel, message }).unwrap();
     }
     said
+}
+
+/// Whether a message is not answered, of a session that lasts.
+fn is_silent(bytes: &Vec<u8>, lasts: bool) -> bool
+    ensures silent { result ≡ true → (lasts ≡ true) × (length bytes.now.items ≡ 0) }
+    ensures answers { result ≡ false → lasts ≡ true → 0 < length bytes.now.items }
+{
+    lasts && bytes.is_empty()
 }
 
 /// What was said before, and an answer, cut to the size that the desk answers. Where it answers none, the channel ends.
