@@ -33,8 +33,6 @@ pub struct Talker {
     expansion: Vec<u8>,
     /// Room for the answers to the next message.
     line: Vec<u8>,
-    /// Room for the desk's answer to a unit: what the last one left in it.
-    answer: SessionAnswer,
 }
 
 impl Talker {
@@ -49,7 +47,6 @@ impl Talker {
             macros: Macros::new(alloc),
             expansion: Vec::new(alloc),
             line: Vec::new(alloc),
-            answer: SessionAnswer::Stranger,
         }
     }
 
@@ -228,8 +225,11 @@ impl Talker {
             return self.serve_unread(desk, command, out);
         }
         let answered = has_answers(out);
-        ask_command(desk, self.sid, command, answered, &mut self.answer);
-        conclude(desk, self.sid, &mut self.answer, out)
+        let mut answer = SessionAnswer::Stranger;
+        ask_command(desk, self.sid, command, answered, &mut answer);
+        let after = conclude(desk, self.sid, &mut answer, out);
+        drop(answer);
+        after
     }
 
     /// Serves a unit that is this command. There is no memory for its answer, so that nothing is read out.

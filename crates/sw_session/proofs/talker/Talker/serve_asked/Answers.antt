@@ -9,7 +9,7 @@ returns-then-lacks_room-clause-serves g c = λ path answers written.
 pub returns-clause-serves : goal.returns-clause-serves
 returns-clause-serves g c = λ path answers written.
     let line = c.lacks_room.ensures.same ∙ written in
-    let s = c.conclude.ensures path c.args.self.now.macros answers line in (
+    let s = c.conclude-after.ensures path c.args.self.now.macros answers line in (
       s.0,
       s.1,
       serve-unit g.D.Desk.passes _ _ _ c.args.self.now.sid (Ok c.args.command) _ path c.args.self.now.macros c.args.self.now.macros answers
