@@ -2,7 +2,7 @@
 use Rattle.std.proofs.Common.{◌≡◌, ℕ, List, sym, subst, Result, Ok, Err, OnOk}
 use Rattle.sw_cage.specs.Accounts.{Accounts}
 use Rattle.sw_core.specs.Panel.{Panel}
-use Rattle.sw_workers.specs.Closing.{IsClosedDown}
+use Rattle.sw_history.specs.Closing.{IsClosedDown}
 use Rattle.sw_serve.specs.SlotCards.{PlacedCard, IsFitted}
 use Rattle.sw_serve.specs.Serving.{ClosesDown}
 

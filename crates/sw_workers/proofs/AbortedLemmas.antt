@@ -8,14 +8,14 @@ use Rattle.sw_card.specs.Account.{Account}
 use Rattle.sw_core.specs.Panel.{Panel}
 use Rattle.sw_core.specs.Seen.{AskEject, AskInstall, AnswerSeen, SaysEjected, SaysNotEjected}
 use Rattle.sw_core.specs.Step.{Acts, IsEvent, IsUnnumbered, Step}
-use Rattle.sw_workers.specs.Board.{Known, entry_of}
-use Rattle.sw_workers.specs.Entries.{HistoryEntry}
-use Rattle.sw_workers.specs.History.{AsksInHistory, IsHistory, event, grown, said_at}
-use Rattle.sw_workers.specs.Closing.{EndsAtRest}
-use Rattle.sw_workers.specs.Opened.{AddsSlot, AddsSlots, AreOfCards, IsOpened, first_slots, out_by, slots_out}
-use Rattle.sw_workers.specs.Shares.{is_event}
+use Rattle.sw_history.specs.Board.{Known, entry_of}
+use Rattle.sw_history.specs.Entries.{HistoryEntry}
+use Rattle.sw_history.specs.History.{AsksInHistory, IsHistory, event, grown, said_at}
+use Rattle.sw_history.specs.Closing.{EndsAtRest}
+use Rattle.sw_history.specs.Opened.{AddsSlot, AddsSlots, AreOfCards, IsOpened, first_slots, out_by, slots_out}
+use Rattle.sw_history.specs.Shares.{is_event}
 use Rattle.sw_workers.proofs.EjectedLemmas.{unnumbered}
-use Rattle.sw_workers.proofs.RestLemmas.{entries_by, grown_by, leads_by}
+use Rattle.sw_history.proofs.RestLemmas.{entries_by, grown_by, leads_by}
 
 history_join : (p : Panel) (first : List HistoryEntry) (m : Panel) (second : List HistoryEntry) (q : Panel) → IsHistory p first m → IsHistory m second q
     → IsHistory p (first ++ second) q

@@ -9,8 +9,9 @@ use Rattle.sw_core.specs.Seen.{WorkSeen, AskSeen, AskSession, SaysSession, answe
 use Rattle.sw_session.specs.CoreDesk.{TellsOfPiece, brought}
 use Rattle.sw_session.specs.Trace.{HandsBackAsk}
 use Rattle.sw_session.proofs.HandedBackLemmas.{handed-back}
-use Rattle.sw_workers.specs.Held.{AtDesk}
-use Rattle.sw_workers.specs.Work.{AsksOnce, Adds, AnswersDesk, Brings, EndsPiece}
+use Rattle.sw_history.specs.Held.{AtDesk}
+use Rattle.sw_history.specs.Asks.{AsksOnce}
+use Rattle.sw_workers.specs.Work.{Adds, AnswersDesk, Brings, EndsPiece}
 
 pub answers : (start : Panel) (ask : SessionAsk) (answer : SessionAnswer) (work : Option WorkSeen) (old mid new : AtDesk)
     → AsksOnce start (AskSession ask) (SaysSession answer work) old mid → Adds start work mid new → AnswersDesk start ask answer old new

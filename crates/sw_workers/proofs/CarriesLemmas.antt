@@ -4,10 +4,10 @@ use Rattle.std.proofs.lemmas.List.{append-nil}
 use Rattle.sw_core.specs.Panel.{Panel}
 use Rattle.sw_core.specs.declared.ask.Work.{Work}
 use Rattle.sw_core.specs.Seen.{WorkSeen, work_seen}
-use Rattle.sw_workers.specs.Board.{Known}
-use Rattle.sw_workers.specs.Held.{AtDesk}
-use Rattle.sw_workers.specs.History.{event}
-use Rattle.sw_workers.specs.Shares.{is_counted, one_if}
+use Rattle.sw_history.specs.Board.{Known}
+use Rattle.sw_history.specs.Held.{AtDesk}
+use Rattle.sw_history.specs.History.{event}
+use Rattle.sw_history.specs.Shares.{is_counted, one_if}
 use Rattle.sw_session.specs.CoreDesk.{brought}
 use Rattle.sw_workers.specs.Work.{MadeAsk, Carries, Brings, SeesToWork, EndsPiece, IsSentOn, Learns, events_of, left_over}
 

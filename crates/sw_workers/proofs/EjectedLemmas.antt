@@ -23,7 +23,7 @@ use Rattle.sw_core.specs.Panel.{Panel}
 use Rattle.sw_core.specs.Event.{last_number, concluded}
 use Rattle.sw_core.specs.Seen.{AskEject, AnswerSeen, SaysEjected, SaysNotEjected, answer_seen}
 use Rattle.sw_core.specs.Step.{Step, Acts, IsUnnumbered, IsEvent, acts_unnumbered}
-use Rattle.sw_workers.specs.Closing.{IsOpen, IsClosedDown}
+use Rattle.sw_history.specs.Closing.{IsOpen, IsClosedDown}
 
 -- the card that an answer gives
 abbrev pub ejected : AnswerSeen → Option Account

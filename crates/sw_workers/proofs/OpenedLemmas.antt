@@ -20,7 +20,7 @@ use Rattle.sw_core.specs.Good.{IsGoodPanel, OptionFew}
 use Rattle.sw_core.specs.Panel.{Panel, with_cards}
 use Rattle.sw_core.specs.Seen.{AskEject, AskInstall, AnswerSeen, SaysEjected, SaysNotEjected, SaysInstalled, SaysNotInstalled}
 use Rattle.sw_core.specs.Step.{Step, Acts, IsUnnumbered, IsEvent, acts_unnumbered}
-use Rattle.sw_workers.specs.Opened.{HaveChannels, Reopens, IsOpened}
+use Rattle.sw_history.specs.Opened.{HaveChannels, Reopens, IsOpened}
 use Rattle.sw_workers.proofs.EjectedLemmas.{ejected, unnumbered, stopped_if, rest_twice}
 
 -- one more event, or none

@@ -9,7 +9,7 @@ use Rattle.sw_session.specs.CoreDesk.{TellsOfPiece, brought}
 use Rattle.sw_workers.specs.declared.pauses.Next.TheVariants.{Ends}
 use Rattle.sw_workers.specs.declared.pauses.Pause.{Pause}
 use Rattle.sw_workers.specs.Pauses.{EndsStanding}
-use Rattle.sw_workers.specs.Held.{AtDesk}
+use Rattle.sw_history.specs.Held.{AtDesk}
 use Rattle.sw_workers.specs.Work.{MadeAsk, Carries, Adds, Brings, AreTold, Works, IsOverPause, none_own, events_of}
 use Rattle.sw_workers.proofs.CarriesLemmas.{made_of, learns-append}
 

@@ -14,12 +14,13 @@ use Rattle.sw_session.specs.declared.desk.Wake.{Wake}
 use Rattle.sw_session.specs.declared.desk.Wake.TheVariants.{Again, Over}
 use Rattle.sw_session.specs.Trace.{Entry, Asked, Waited, Polled, Noted}
 use Rattle.sw_session.specs.CoreDesk.{TellsOfPiece, brought}
-use Rattle.sw_workers.specs.Board.{Known}
+use Rattle.sw_history.specs.Asks.{AsksOnce}
+use Rattle.sw_history.specs.Board.{Known}
 use Rattle.sw_workers.specs.Waits.{MayEnd, is_leave, serving_after}
-use Rattle.sw_workers.specs.Entries.{last_pair, made_by}
-use Rattle.sw_workers.specs.Held.{AtDesk}
-use Rattle.sw_workers.specs.History.{pair_of, event, AsksInHistory}
-use Rattle.sw_workers.specs.Shares.{is_counted, one_if}
+use Rattle.sw_history.specs.Entries.{last_pair, made_by}
+use Rattle.sw_history.specs.Held.{AtDesk}
+use Rattle.sw_history.specs.History.{pair_of, event, AsksInHistory}
+use Rattle.sw_history.specs.Shares.{is_counted, one_if}
 use Rattle.sw_workers.specs.declared.pauses.Pause.{Pause}
 
 -- What the mainframe was asked by a desk at the panel that was behind the lock then, what was answered, and the panel
@@ -43,14 +44,6 @@ events_of (m ∷ made) = one_if (is_counted m.before.events m.event.answer) + ev
 abbrev pub Learns : Known → List MadeAsk → Known → Type 0
 Learns v [] w = w ≡ v
 Learns v (m ∷ made) w = (m.knew ≡ v) × Learns m.knows made w
-
--- The mainframe was asked once, and the desk's seat knows it. A share counts that, by the number of events at the panel
--- to which the history had led.
-pub record AsksOnce (start : Panel) (ask : AskSeen) (answer : AnswerSeen) (old new : AtDesk) : Type 0 where
-  pub before : Panel
-  pub after : Panel
-  pub history : AsksInHistory start before old.seat (event ask answer after) new.seat
-  pub counts : new.amount ≡ old.amount + one_if (is_counted before.events answer)
 
 -- The work was sent, or there was none. Or it was carried out, and the same holds of what that brought.
 abbrev pub Carries : Panel → Option WorkSeen → List MadeAsk → Type 0

@@ -4,12 +4,12 @@ ghost use Rattle.std.specs.Prelude.{◌≡◌, vec_len};
 ghost use Rattle.sw_base.specs.Limits.{most_sessions};
 ghost use Rattle.sw_workers.specs.Places.{who_moves};
 
-use crate::slots::place_of;
 use crossbeam_utils::CachePadded;
 use std::alloc::{AllocError, Global};
 use std::sync::{Mutex, Wait};
 use sw_base::SESSIONS;
 use sw_core::{SessionAnswer, Sid};
+use sw_history::place_of;
 use sw_session::{Available, Seating};
 
 /// Which session joins or leaves by an ask and its answer, if one does.

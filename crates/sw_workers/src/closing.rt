@@ -6,11 +6,11 @@ ghost use Rattle.sw_base.specs.Layout.{slot_at};
 ghost use Rattle.sw_base.specs.Limits.{most_slots};
 ghost use Rattle.sw_cage.specs.Accounts.{option_account, accounts_of, all_open};
 ghost use Rattle.sw_core.specs.Good.{IsGoodPanel};
-ghost use Rattle.sw_workers.specs.Closing.{IsOpen, IsClosedDown};
+ghost use Rattle.sw_history.specs.Closing.{IsOpen, IsClosedDown};
 
 use crate::desk::SharedDesk;
 use crate::gate::Gate;
-use crate::held::{DeskPart, Held, Mainframe};
+use crate::mainframe::Mainframe;
 use crate::shared::Shared;
 use std::alloc::Global;
 use std::sync::ledger::Share;
@@ -19,6 +19,7 @@ use std::time::Clock;
 use sw_base::SLOTS;
 use sw_card::{Card, Meter, Relay};
 use sw_core::{Answer, Ask, runs_go_on};
+use sw_history::{DeskPart, Held};
 
 /// A mainframe that was closed down.
 #[derive(Drop)]

@@ -4,17 +4,17 @@ ghost use Rattle.std.specs.Prelude.{◌≡◌, [], None, Some, IfSome};
 ghost use Rattle.sw_core.specs.Seen.{ask_seen, work_seen};
 ghost use Rattle.sw_session.specs.CoreDesk.{TellsOfPiece, piece_seen};
 ghost use Rattle.sw_session.specs.Trace.{LeavesOf};
-ghost use Rattle.sw_workers.specs.Opened.{OpensAll};
+ghost use Rattle.sw_history.specs.Opened.{OpensAll};
 ghost use Rattle.sw_workers.specs.Waits.{MayRest, limit_after, number_after, is_leave, serving_after, told_left};
-ghost use Rattle.sw_workers.specs.Work.{AsksOnce, Brings, SeesToWork, EndsPiece, Deserts, desk_seen, IsRested, Works};
+ghost use Rattle.sw_history.specs.Asks.{AsksOnce};
+ghost use Rattle.sw_workers.specs.Work.{Brings, SeesToWork, EndsPiece, Deserts, desk_seen, IsRested, Works};
 ghost use Rattle.sw_workers.specs.Work.{none_own};
 ghost use Rattle.sw_workers.specs.declared.desk.Rest.TheVariants.{Deserted};
 
-use crate::event_kind::{BySession, EventKind, FromOutside};
 use crate::gate::{Gate, Point};
-use crate::held::{DeskPart, Mainframe};
 use crate::leaving::await_served;
 use crate::limits::{Limit, slice_of};
+use crate::mainframe::Mainframe;
 use crate::outboxes::Place;
 use crate::shared::{Shared, Woken};
 use std::alloc::Global;
@@ -22,6 +22,7 @@ use std::sync::{Arc, Wait};
 use std::time::Clock;
 use sw_card::{Meter, Relay};
 use sw_core::{Answer, Ask, SessionAnswer, SessionAsk, Sid, Work};
+use sw_history::{BySession, DeskPart, EventKind, FromOutside};
 use sw_session::{Desk, Seating, View, Wake, seating_of};
 
 /// The desk of a session or of a worker, which one thread has.

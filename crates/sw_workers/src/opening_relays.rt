@@ -2,13 +2,14 @@
 
 ghost use Rattle.std.specs.Prelude.{◌≡◌, ◌≤◌};
 ghost use Rattle.sw_base.specs.Limits.{most_slots};
-ghost use Rattle.sw_workers.specs.History.{IsHistory};
-ghost use Rattle.sw_workers.specs.Opened.{AddsSlot, Reopens, IsOpened};
+ghost use Rattle.sw_history.specs.History.{IsHistory};
+ghost use Rattle.sw_history.specs.Opened.{AddsSlot, Reopens, IsOpened};
 
-use crate::held::{DeskPart, Held, Mainframe};
+use crate::mainframe::Mainframe;
 use sw_base::SLOTS;
 use sw_card::{Meter, Relay};
 use sw_core::{Answer, Ask, runs_go_on};
+use sw_history::{DeskPart, Held};
 
 /// Ends the scan that runs and opens every relay: each card comes out of its slot with its relays open, and goes back.
 pub fn open_relays<H: Mainframe, R: Relay, M: Meter>(

@@ -7,7 +7,6 @@ use crate::ends::Ends;
 use crate::limits::{is_overdue, ms_between};
 use crate::line::{Hearing, Line};
 use crate::porch::Porch;
-use crate::slots::place_of;
 use crossbeam_utils::CachePadded;
 use std::alloc::{AllocError, Global};
 use std::marker::{Brand, Model};
@@ -16,6 +15,7 @@ use std::sync::{Arc, Mutex, Wait};
 use std::time::{Clock, Instant};
 use sw_base::SESSIONS;
 use sw_core::{SessionAnswer, Sid};
+use sw_history::place_of;
 use sw_session::Seating;
 
 /// How many bytes wait at most for a session's other thread. A session with a client that doesn't read them is left.

@@ -12,7 +12,7 @@ ghost use Rattle.sw_workers.specs.Work.{DeskPasses, desk_seen};
 use crate::connection::Connection;
 use crate::desk::SharedDesk;
 use crate::gate::Gate;
-use crate::held::Mainframe;
+use crate::mainframe::Mainframe;
 use crate::outboxes::Place;
 use crate::reading::{Reading, read_header};
 use std::alloc::Global;

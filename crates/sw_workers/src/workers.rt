@@ -7,7 +7,7 @@ ghost use Rattle.sw_workers.specs.Work.{Works, IsReceivedJob, IsOverPause, none_
 
 use crate::desk::SharedDesk;
 use crate::gate::{Gate, Point};
-use crate::held::Mainframe;
+use crate::mainframe::Mainframe;
 use crate::pauses::{Next, Pause, Standing};
 use crate::work_channels::Receiving;
 use crossbeam_channel::{Receiver, RecvTimeoutError};

@@ -1,7 +1,7 @@
 //! The status board over threads.
 
 ghost use Rattle.std.specs.Prelude.{◌≡◌, ◌<◌, ◌^◌, ℕ, Some};
-ghost use Rattle.sw_workers.specs.Board.{pair_in};
+ghost use Rattle.sw_history.specs.Board.{pair_in};
 
 use std::alloc::Global;
 use std::marker::Brand;
@@ -11,7 +11,8 @@ use std::sync::{Mutex, Wait};
 use std::test::*;
 use std::thread;
 use std::thread::{Threads, join};
-use sw_workers::{BlankBoard, BoardName, LockedPass, SeatSlots, StatusBoard, StatusSeat};
+use sw_history::{BlankBoard, BoardName, LockedPass, SeatSlots};
+use sw_workers::{StatusBoard, StatusSeat};
 
 /// How often a thread looks whether another has come so far.
 const TURNS: u32 = 50_000_000;

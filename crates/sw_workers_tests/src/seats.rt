@@ -15,9 +15,10 @@ use std::thread::{Threads, join};
 use sw_base::ScpiError;
 use sw_card::{Meter, Relay};
 use sw_core::{Answer, Ask, SessionAnswer, SessionAsk, Sid};
+use sw_history::Recorded;
 use sw_kinds::{SimDriver, SimSource};
 use sw_lex::{Command, StatusSetting};
-use sw_workers::{DeskPart, Held, Mainframe, Opening, Recorded, StatusBoard, StatusSeat};
+use sw_workers::{DeskPart, Held, Mainframe, Opening, StatusBoard, StatusSeat};
 
 /// A mainframe behind its lock, and the desk of its second session.
 #[derive(Drop)]

@@ -117,7 +117,7 @@ returns-in_err-gather-clause-err g c = at-fault _ c.from_residual-in_err-gather.
       eqb-false (vec_len c.read_line.new.line) 0 (sym c.is_empty.ensures ∙ c.if-is_empty.false),
     ) in
     let rested : c.rest.result ≡ true = search rules in
-    let answered = line_rested (c.answer_at_hand.ensures.same ∙ c.loop-answering.invariant.sid) c.deref.ensures.value c.message_into.ensures.talked
+    let answered = line_rested (c.answer_at_hand.ensures.same ∙ c.loop-answering.invariant.sid) c.deref.ensures.value c.message_into.ensures.talked.0
     c.rest.ensures.rests rested in
     let read = stand (state c.answer_at_hand.new.desk c.answer_at_hand.new.self.talker.macros) c.read_line.new.source c.write_out.new.writer
     c.write_out.new.unwritten.items c.read_line.new.turns in
@@ -139,7 +139,7 @@ returns-in_err-gather-clause-turns g c = asks-at c.from_residual-in_err-gather.r
       eqb-false (vec_len c.read_line.new.line) 0 (sym c.is_empty.ensures ∙ c.if-is_empty.false),
     ) in
     let rested : c.rest.result ≡ true = search rules in
-    let answered = line_rested (c.answer_at_hand.ensures.same ∙ c.loop-answering.invariant.sid) c.deref.ensures.value c.message_into.ensures.talked
+    let answered = line_rested (c.answer_at_hand.ensures.same ∙ c.loop-answering.invariant.sid) c.deref.ensures.value c.message_into.ensures.talked.0
     c.rest.ensures.rests rested in
     let read = stand (state c.answer_at_hand.new.desk c.answer_at_hand.new.self.talker.macros) c.read_line.new.source c.write_out.new.writer
     c.write_out.new.unwritten.items c.read_line.new.turns in
@@ -162,7 +162,7 @@ loop-answering-preserved g c =
       eqb-false (vec_len c.read_line.new.line) 0 (sym c.is_empty.ensures ∙ c.if-is_empty.false),
     ) in
     let rested : c.rest.result ≡ true = search rules in
-    let answered = line_rested (c.answer_at_hand.ensures.same ∙ c.loop-answering.invariant.sid) c.deref.ensures.value c.message_into.ensures.talked
+    let answered = line_rested (c.answer_at_hand.ensures.same ∙ c.loop-answering.invariant.sid) c.deref.ensures.value c.message_into.ensures.talked.0
     c.rest.ensures.rests rested in
     let read = stand (state c.answer_at_hand.new.desk c.answer_at_hand.new.self.talker.macros) c.read_line.new.source c.write_out.new.writer
     c.write_out.new.unwritten.items c.read_line.new.turns in

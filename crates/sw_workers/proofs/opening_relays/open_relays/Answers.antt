@@ -1,8 +1,8 @@
 use Rattle.std.proofs.Common.{◌≡◌, ◌∙◌, ℕ, sym, ap, subst, arith}
 use Rattle.sw_base.specs.Limits.{most_slots}
 use Rattle.sw_core.specs.Panel.{Panel}
-use Rattle.sw_workers.specs.Held.{Locked}
-use Rattle.sw_workers.specs.Opened.{IsOpened}
+use Rattle.sw_history.specs.Held.{Locked}
+use Rattle.sw_history.specs.Opened.{IsOpened}
 use Rattle.sw_workers.proofs.AbortedLemmas.{IsGrown, ends_here, slots_more}
 use Rattle.sw_workers.proofs.OpenedLemmas.{IsSoFar, one_more, all_opened}
 use Rattle.sw_workers.proofs.opening_relays.open_relays.Goals as goal

@@ -71,7 +71,7 @@ returns-in_err-gather-clause-err g c =
     (g.S.LineSource.shows c.look-length.new.self c.look-length.result)
     shows c.look-length.ensures.keeps c.look-length.ensures.shown c.take.ensures.taken in
     let rested : c.rest.result ≡ true = search rules in
-    let answered = line_rested c.loop-self.invariant.sid c.deref.ensures.value c.message_into.ensures.talked c.rest.ensures.rests rested in
+    let answered = line_rested c.loop-self.invariant.sid c.deref.ensures.value c.message_into.ensures.talked.0 c.rest.ensures.rests rested in
     let next = stand (state c.rest.new.self c.message_into.new.self.macros) c.take.new.self c.loop-self.writer
     (c.loop-self.self.unwritten.items ++ c.message_into.new.out.items) c.loop-self.self.turns in
     let read = stand (state c.loop-self.desk c.loop-self.self.talker.macros) c.take.new.self c.loop-self.writer c.loop-self.self.unwritten.items c.loop-self.self.turns in
@@ -103,7 +103,7 @@ loop-self-preserved g c =
     (g.S.LineSource.shows c.look-length.new.self c.look-length.result)
     shows c.look-length.ensures.keeps c.look-length.ensures.shown c.take.ensures.taken in
     let rested : c.rest.result ≡ true = search rules in
-    let answered = line_rested c.loop-self.invariant.sid c.deref.ensures.value c.message_into.ensures.talked c.rest.ensures.rests rested in
+    let answered = line_rested c.loop-self.invariant.sid c.deref.ensures.value c.message_into.ensures.talked.0 c.rest.ensures.rests rested in
     let wrote = subst (λ (b : List ℕ). Gathers (g.W.Write.contents c.loop-self.writer) (c.loop-self.self.unwritten.items ++ b)
     (g.W.Write.contents c.gather.new.writer) c.gather.new.unwritten.items) c.deref-in-loop-self.ensures.value c.in_ok-gather.ensures.ok in
     let next = stand (state c.rest.new.self c.message_into.new.self.macros) c.take.new.self c.gather.new.writer c.gather.new.unwritten.items

@@ -1,6 +1,6 @@
 use Rattle.std.proofs.Common.{rules, ◌≡◌, true, subst}
-use Rattle.sw_workers.specs.Closing.{EndsAtRest}
-use Rattle.sw_workers.specs.Held.{Locked}
+use Rattle.sw_history.specs.Closing.{EndsAtRest}
+use Rattle.sw_history.specs.Held.{Locked}
 use Rattle.sw_workers.proofs.shared.Shared.close_down.Goals as goal
 
 pub returns-clause-cards : goal.returns-clause-cards

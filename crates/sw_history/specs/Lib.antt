@@ -1,0 +1,13 @@
+pub mod Board
+pub mod Entries
+pub mod Held
+pub mod History
+pub mod Kinds
+pub mod Said
+pub mod Shares
+pub mod Closing
+pub mod Opened
+pub mod Laws
+pub mod Waking
+pub mod Asks
+pub mod Places

@@ -1,5 +1,0 @@
-use Rattle.sw_workers.proofs.EachCountedLemmas.{each-counted}
-use Rattle.sw_workers.proofs.laws.each_event_is_counted.Goals as goal
-
-pub returns : goal.returns
-returns c = each-counted

@@ -1,5 +1,0 @@
-use Rattle.sw_workers.proofs.HistoryRunsLemmas.{every_history}
-use Rattle.sw_workers.proofs.laws.every_history_is_a_run.Goals as goal
-
-pub returns : goal.returns
-returns c = every_history c.runs_go_on.ensures
