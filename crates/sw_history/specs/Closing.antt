@@ -21,8 +21,7 @@ is_unasked (AskSession ask) = false
 is_unasked ask = true
 
 -- These entries lead from p to q, and no session asked any of them. At p, at q and between no scan runs, and no relay
--- is
--- closed.
+-- is closed.
 abbrev pub StaysAtRest : Panel → List HistoryEntry → Panel → Type 0
 StaysAtRest p [] q = (q ≡ p) × IsAtRest p
 StaysAtRest p (e ∷ entries) q =

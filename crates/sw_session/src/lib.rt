@@ -15,9 +15,8 @@
 //! `Engine` is one of the two channels of a HiSLIP session (IVI-6.1), and its contract is what it asks and says to each
 //! message (`TakesMessage`). `serve_channel` serves a channel over any reader, two writers and any desk: it writes what
 //! the engine says to the messages in what it read, however that was cut (`ServesChannel`). A reader (`ByteSource`)
-//! counts
-//! the reads that a time limit ended, where it can; then a server gives up after as many bytes and such reads as it has
-//! turns, and not before.
+//! counts the reads that a time limit ended, where it can; then a server gives up after as many bytes and such reads as
+//! it has turns, and not before.
 //!
 //! Not promised: that a desk ever answers anything but a hold, and that memory is there.
 #![tactic(auto)]

@@ -388,7 +388,8 @@ pub enum AfterUnit {
     Goes,
     /// The rest is dropped; the answers given are written.
     Drops,
-    /// The session is none any more: the rest is dropped, and nothing is written.
+    /// The session is being cleared, is none any more, or nothing more can be numbered: the rest is dropped, and
+    /// nothing is written.
     Ends,
 }
 

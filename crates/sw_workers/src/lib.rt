@@ -14,9 +14,9 @@
 //! slot, each as it was there at the end of the history, but with nothing closed.
 //!
 //! `run_session` serves one connection of a HiSLIP session by such a desk, as the channel that its first header names.
-//! `serve_channel` promises what it asks and writes for what it reads (`RunsSession`). What the first
-//! channel's thread says on the second one waits in the session's slot, under a lock of its own, until the other thread
-//! writes it. The next session of that number never finds it (`Waiting::open`).
+//! `serve_channel` promises what it asks and writes for what it reads (`RunsSession`). What the first channel's thread
+//! says on the second one waits in the session's slot, under a lock of its own, until the other thread writes it. The
+//! next session of that number never finds it (`Waiting::open`).
 //!
 //! No contract says when or whether a thread continues, nor how late a status is that a seat reads.
 #![tactic(auto)]

@@ -20,9 +20,8 @@ use sw_core::SessionAsk;
 
 /// Serves one channel of a session over its connection (IVI-6.1 HiSLIP, synchronized mode), from the bytes on that were
 /// heard on it: reads until the end of input, the end of the session or a fault, for at most `turns` reads, and leaves
-/// the session then. What is said on
-/// the other channel goes to the side writer. The asynchronous channel sends service requests before each message, and
-/// where a time limit ended a read.
+/// the session then. What is said on the other channel goes to the side writer. The asynchronous channel sends service
+/// requests before each message, and where a time limit ended a read.
 pub fn serve_channel<R: ByteSource, W: Sink, S: Sink, D: Desk>(
     alloc: Global,
     beginning: Beginning,
