@@ -10,9 +10,9 @@ use Rattle.sw_core.specs.Event.{last_number}
 use Rattle.sw_core.specs.Step.{acts_unnumbered, IsEvent, IsUnnumbered, Step}
 use Rattle.sw_cage.specs.Accounts.{Accounts}
 use Rattle.sw_core.specs.Run.{failures_after, StepIsDetermined}
-use Rattle.sw_session.specs.Law.{outcomes_in_talk, outcomes_at_rest}
-use Rattle.sw_session.specs.Talk.{state}
-use Rattle.sw_session.specs.Law.{IsSameDesk, CoreTalkIsDetermined, CoreRestIsDetermined}
+use Rattle.sw_talk.specs.Law.{outcomes_in_talk, outcomes_at_rest}
+use Rattle.sw_talk.specs.Talk.{state}
+use Rattle.sw_talk.specs.Law.{IsSameDesk, CoreTalkIsDetermined, CoreRestIsDetermined}
 use Rattle.sw_card.specs.Account.{Account}
 use Rattle.mainframe.specs.Lines.{lines_of}
 use Rattle.sw_serve.specs.SlotCards.{PlacedCard, Takes, TakesCards, Joins, IsSetUp}

@@ -15,9 +15,9 @@ use Rattle.std.proofs.Transfers.{StopsAt-of_All, StopsAt-append}
 use Rattle.sw_core.specs.declared.ask.Sid.{Sid}
 use Rattle.sw_base.specs.Limits.{most_bytes, most_kept}
 use Rattle.sw_macro.specs.Table.{Table}
-use Rattle.sw_session.specs.CoreDesk.{CorePasses}
-use Rattle.sw_session.specs.Trace.{Entry}
-use Rattle.sw_session.specs.Talk.{state, Talked, TalksMessage, TalksUnits, Overruns}
+use Rattle.sw_talk.specs.CoreDesk.{CorePasses}
+use Rattle.sw_talk.specs.Trace.{Entry}
+use Rattle.sw_talk.specs.Talk.{state, Talked, TalksMessage, TalksUnits, Overruns}
 use Rattle.mainframe.specs.declared.fault.RunFault.{RunFault}
 use Rattle.mainframe.specs.Kept.{CutsLine, TakesPart, KeepsFront, IsFirstLine, ShowsLine, LosesFront}
 use Rattle.mainframe.specs.Run.{Line, RunState}

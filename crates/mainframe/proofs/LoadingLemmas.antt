@@ -16,9 +16,9 @@ use Rattle.sw_core.specs.Panel.{Panel, is_running}
 use Rattle.sw_core.specs.Seen.{WorkSeen, AskSeen, AskSession, AnswerSeen, SaysSession}
 use Rattle.sw_core.specs.Step.{StepRefused, StepEffect, StepJoined, StepAdmitted, Admission, Dropped, ShutOut, Admitted, admission}
 use Rattle.sw_core.specs.Step.{acts_unnumbered, IsWorn, IsEvent, IsUnnumbered, Step}
-use Rattle.sw_session.specs.Available.{seated}
-use Rattle.sw_session.specs.CoreDesk.{DeskSeen, Carried, Keeps, CorePasses}
-use Rattle.sw_session.specs.Trace.{Asked}
+use Rattle.sw_talk.specs.Available.{seated}
+use Rattle.sw_talk.specs.CoreDesk.{DeskSeen, Carried, Keeps, CorePasses}
+use Rattle.sw_talk.specs.Trace.{Asked}
 use Rattle.mainframe.specs.Run.{takes_program}
 
 -- an answer that hands nothing back is an event's

@@ -9,9 +9,9 @@ use Rattle.std.specs.Io.BufRead.{take_through, drop_through, DropsThrough}
 use Rattle.sw_core.specs.declared.ask.Sid.{Sid}
 use Rattle.sw_core.specs.Panel.{Panel}
 use Rattle.sw_macro.specs.Table.{Table}
-use Rattle.sw_session.specs.CoreDesk.{desk_over, DeskSeen, CorePasses, WaitsOut}
-use Rattle.sw_session.specs.Talk.{state, Talked}
-use Rattle.sw_session.specs.Trace.{Entry, Leads}
+use Rattle.sw_talk.specs.CoreDesk.{desk_over, DeskSeen, CorePasses, WaitsOut}
+use Rattle.sw_talk.specs.Talk.{state, Talked}
+use Rattle.sw_talk.specs.Trace.{Entry, Leads}
 use Rattle.mainframe.specs.Lines.{lines_of}
 use Rattle.sw_session.specs.ServeWrite.{WritesPart}
 use Rattle.sw_serve.specs.SlotCards.{PlacedCard, IsSetUp, IsDeskForOne}

@@ -6,9 +6,9 @@ use Rattle.std.specs.Io.KnownBytes.{Appends, Keeps, IsAtEnd}
 use Rattle.std.specs.Io.BufRead.{take_through, DropsThrough}
 use Rattle.sw_core.specs.declared.ask.Sid.{Sid}
 use Rattle.sw_macro.specs.Table.{Table, no_macros}
-use Rattle.sw_session.specs.CoreDesk.{DeskSeen}
+use Rattle.sw_talk.specs.CoreDesk.{DeskSeen}
 use Rattle.sw_session.specs.ServeWrite.{WritesPart}
-use Rattle.sw_session.specs.Talk.{state}
+use Rattle.sw_talk.specs.Talk.{state}
 use Rattle.mainframe.specs.declared.fault.RunFault.{RunFault}
 use Rattle.mainframe.specs.declared.fault.RunFault.TheVariants.{Input, Output, Memory, Listen, Descriptors}
 use Rattle.sw_base.specs.Limits.{most_kept}

@@ -12,11 +12,11 @@ use Rattle.sw_core.specs.Panel.{Panel, opening}
 use Rattle.sw_core.specs.Run.{EveryRunIsGood}
 use Rattle.sw_core.specs.Seen.{AskSession, AskInstall, SaysSession, SaysInstalled}
 use Rattle.sw_core.specs.Step.{Step}
-use Rattle.sw_session.specs.declared.desk.Wake.TheVariants.{Again}
-use Rattle.sw_session.specs.CoreDesk.{DeskSeen, CorePasses, desk_over, last_wait}
-use Rattle.sw_session.specs.DeskRuns.{Exchange, asked_in}
-use Rattle.sw_session.specs.Trace.{Entry, Waited, Leads}
-use Rattle.sw_session.proofs.DeskRunsLemmas.{RunsAsking, stays, begins, goes-on, leads-runs}
+use Rattle.sw_talk.specs.declared.desk.Wake.TheVariants.{Again}
+use Rattle.sw_talk.specs.CoreDesk.{DeskSeen, CorePasses, desk_over, last_wait}
+use Rattle.sw_talk.specs.DeskRuns.{Exchange, asked_in}
+use Rattle.sw_talk.specs.Trace.{Entry, Waited, Leads}
+use Rattle.sw_talk.proofs.DeskRunsLemmas.{RunsAsking, stays, begins, goes-on, leads-runs}
 use Rattle.sw_serve.specs.SlotCards.{PlacedCard, TakesCards, Joins, IsSetUp}
 use Rattle.sw_serve.proofs.FittingLemmas.{joined_bare}
 use Rattle.mainframe.specs.Run.{RunState, begins_at, Line, Run, RunsTo, EndsFrom, asks_over, IsWholeOf, IsWholeTo}

@@ -2,8 +2,8 @@
 use Rattle.std.specs.Prelude.{◌≡◌, ℕ, List, [], ◌∷◌}
 use Rattle.sw_core.specs.declared.ask.Sid.{Sid}
 use Rattle.sw_core.specs.Panel.{Panel}
-use Rattle.sw_session.specs.Law.{AllAmple, AllSmooth, carried_in, waits_of, carried_at_rest}
-use Rattle.sw_session.specs.Law.{Outcome, outcomes_in_talk, outcomes_at_rest}
+use Rattle.sw_talk.specs.Law.{AllAmple, AllSmooth, carried_in, waits_of, carried_at_rest}
+use Rattle.sw_talk.specs.Law.{Outcome, outcomes_in_talk, outcomes_at_rest}
 use Rattle.sw_serve.specs.SlotCards.{PlacedCard, IsSetUp}
 use Rattle.mainframe.specs.Run.{RunState, begins_over, Line, Run, RunsTo}
 

@@ -12,11 +12,11 @@ use Rattle.sw_code.specs.Range.{Program}
 use Rattle.sw_lex.specs.declared.command.Command.TheVariants as Command
 use Rattle.sw_lex.specs.declared.command.Setting.TheVariants as Setting
 use Rattle.sw_macro.specs.Table.{no_macros}
-use Rattle.sw_session.specs.CoreDesk.{DeskSeen, CorePasses, WaitsOut, desk_over}
-use Rattle.sw_session.specs.DeskRuns.{Exchange, IsRunTo, asked_in, asked_of}
-use Rattle.sw_session.specs.Talk.{state, Talked}
-use Rattle.sw_session.specs.Talk.{TalkState as StateOver}
-use Rattle.sw_session.specs.Trace.{Entry, Asked, Leads}
+use Rattle.sw_talk.specs.CoreDesk.{DeskSeen, CorePasses, WaitsOut, desk_over}
+use Rattle.sw_talk.specs.DeskRuns.{Exchange, IsRunTo, asked_in, asked_of}
+use Rattle.sw_talk.specs.Talk.{state, Talked}
+use Rattle.sw_talk.specs.Talk.{TalkState as StateOver}
+use Rattle.sw_talk.specs.Trace.{Entry, Asked, Leads}
 use Rattle.mainframe.specs.declared.fault.RunFault.{RunFault}
 use Rattle.mainframe.specs.declared.fault.RunFault.TheVariants.{Input, Output, Memory, Listen, Descriptors}
 use Rattle.sw_serve.specs.SlotCards.{PlacedCard, IsSetUp}

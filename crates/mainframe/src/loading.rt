@@ -2,7 +2,7 @@
 
 ghost use Rattle.std.specs.Prelude.{◌≡◌, Ok, IfOk, IfErr, OnOk};
 ghost use Rattle.sw_code.specs.Reading.{code_in};
-ghost use Rattle.sw_session.specs.CoreDesk.{CorePasses};
+ghost use Rattle.sw_talk.specs.CoreDesk.{CorePasses};
 ghost use Rattle.sw_verify.specs.Runnable.{IsRunnable};
 ghost use Rattle.sw_verify.specs.declared.setup.Loaded.TheVariants.{On};
 ghost use Rattle.mainframe.specs.Run.{takes_program};

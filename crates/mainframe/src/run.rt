@@ -6,9 +6,9 @@ ghost use Rattle.sw_serve.specs.SlotCards.{cards_seen, relay_seen, meter_seen};
 ghost use Rattle.mainframe.specs.Cards.{program_cards};
 ghost use Rattle.sw_macro.specs.Table.{no_macros};
 ghost use Rattle.mainframe.specs.Turns.{AsksInTurn, AnswersAtHand, StopsAtHand, FailsAfter, IsInVain, stand, streams};
-ghost use Rattle.sw_session.specs.CoreDesk.{CorePasses};
-ghost use Rattle.sw_session.specs.Talk.{state, turns};
-ghost use Rattle.sw_session.specs.Trace.{Leads};
+ghost use Rattle.sw_talk.specs.CoreDesk.{CorePasses};
+ghost use Rattle.sw_talk.specs.Talk.{state, turns};
+ghost use Rattle.sw_talk.specs.Trace.{Leads};
 ghost use Rattle.mainframe.specs.Run.{AnsweredFrom, EndsFrom, Runs, RunsFrom, asked_first};
 
 use crate::cards::{first_card, in_slots, meter_card, second_card, third_card};

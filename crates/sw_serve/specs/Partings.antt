@@ -1,8 +1,8 @@
 -- How a connection has ended.
 use Rattle.std.specs.Prelude.{ℕ, ◌==◌, if◌then◌else◌, Bool, true, false, Result, Ok, Err}
-use Rattle.sw_session.specs.declared.servers.fault.ServeFault.{ServeFault}
-use Rattle.sw_session.specs.declared.servers.fault.ServeFault.TheVariants.{Read, Write, Wire, Fatal}
-use Rattle.sw_session.specs.declared.servers.fault.ServeFault.TheVariants.{NoMemory, ReadBound}
+use Rattle.sw_session.specs.declared.fault.ServeFault.{ServeFault}
+use Rattle.sw_session.specs.declared.fault.ServeFault.TheVariants.{Read, Write, Wire, Fatal}
+use Rattle.sw_session.specs.declared.fault.ServeFault.TheVariants.{NoMemory, ReadBound}
 use Rattle.sw_serve.specs.declared.log.Parting.{Parting}
 use Rattle.sw_serve.specs.declared.log.Remark.{Remark}
 use Rattle.sw_serve.specs.declared.log.Remark.TheVariants.{NoInput, Aborted}

@@ -12,7 +12,7 @@ use Rattle.sw_core.specs.declared.ask.SessionAnswer.TheVariants.{Joined}
 use Rattle.sw_core.specs.Panel.{Panel, opening}
 use Rattle.sw_core.specs.Seen.{AskSession, AskInstall, SaysSession, SaysInstalled, failed_in, IsOwnAccount}
 use Rattle.sw_core.specs.Step.{Step}
-use Rattle.sw_session.specs.CoreDesk.{DeskSeen, desk_over}
+use Rattle.sw_talk.specs.CoreDesk.{DeskSeen, desk_over}
 use Rattle.sw_serve.specs.declared.slot_card.OwnCard.{OwnCard}
 use Rattle.sw_serve.specs.declared.slot_card.OwnCard.TheVariants.{Relays, Measures}
 use Rattle.sw_serve.specs.declared.slot_card.SlotCard.{SlotCard}

@@ -8,7 +8,7 @@ ghost use Rattle.sw_serve.specs.Arrivals.{TakesUpTo, count_after};
 ghost use Rattle.sw_serve.specs.Fitting.{IsUnfitted, AreWelcome};
 ghost use Rattle.sw_serve.specs.SlotCards.{cards_seen, relay_seen, meter_seen};
 ghost use Rattle.sw_serve.specs.Serving.{ClosesDown};
-ghost use Rattle.sw_session.specs.Talk.{turns};
+ghost use Rattle.sw_talk.specs.Talk.{turns};
 ghost use Rattle.sw_history.specs.Closing.{IsOpen, IsClosedDown};
 ghost use Rattle.sw_workers.specs.Connected.{mishaps, connection_seen, RunsSession};
 ghost use Rattle.sw_workers.specs.Work.{DeskPasses, desk_seen};

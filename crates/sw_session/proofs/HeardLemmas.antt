@@ -5,7 +5,7 @@ use Rattle.std.specs.Io.KnownBytes.{Consumes, prepend_known}
 use Rattle.sw_hislip.specs.Pending.{Pending, nothing_fed, fed}
 use Rattle.sw_session.specs.ServePoint.{Voice, Point}
 use Rattle.sw_session.specs.Serve.{Course, course, TakesServerTurn}
-use Rattle.sw_session.specs.declared.servers.turns.Next.TheVariants.{On}
+use Rattle.sw_session.specs.declared.turns.Next.TheVariants.{On}
 use Rattle.sw_session.proofs.ServeTurnsLemmas.{Going, going-start, going-on}
 
 nothing_less : (n : ℕ) → 0 ≡ 0 - n

@@ -1,28 +1,3 @@
-pub mod LedLemmas
-pub mod LinesLemmas
-pub mod QuotedLemmas
-pub mod TalksLemmas
-pub mod BeginsLemmas
-pub mod NearerLemmas
-pub mod KeepingLemmas
-pub mod HandedBackLemmas
-pub mod ActedLemmas
-pub mod DeterminedLemmas
-pub mod CoreTalkLemmas
-pub mod CutsLemmas
-pub mod SubAddressLemmas
-pub mod EngineAsksLemmas
-pub mod LockWaitsLemmas
-pub mod AsyncRowsLemmas
-pub mod SyncRowsLemmas
-pub mod SyncAnswersLemmas
-pub mod SyncTalksLemmas
-pub mod SyncShortLemmas
-pub mod PartsLemmas
-pub mod EngineTakesLemmas
-mod OrderLemmas
-pub mod DeskRunsLemmas
-mod NotingLemmas
 pub mod ServeKnownLemmas
 pub mod ServePartsLemmas
 pub mod ServeHandsLemmas

@@ -2,11 +2,11 @@
 use Rattle.std.proofs.Common.{◌≡◌, ◌≢◌, Result, Ok, Err, Some, ℕ, List, [], ◌∷◌, ◌++◌, refl, sym, ap, ◌∙◌, append_assoc, append-nil, subst, flat_map, Option}
 use Rattle.std.proofs.lemmas.List.Concat.{flat_map-append}
 use Rattle.std.specs.Io.KnownBytes.{Appends}
-use Rattle.sw_session.specs.declared.engine.step.Sent.{Sent}
-use Rattle.sw_session.specs.declared.servers.fault.ServeFault.{ServeFault}
-use Rattle.sw_session.specs.declared.servers.fault.ServeFault.TheVariants as Fault
-use Rattle.sw_session.specs.InParts.{GivesFirst}
-use Rattle.sw_session.specs.Trace.{Entry, Leads}
+use Rattle.sw_channels.specs.declared.step.Sent.{Sent}
+use Rattle.sw_session.specs.declared.fault.ServeFault.{ServeFault}
+use Rattle.sw_session.specs.declared.fault.ServeFault.TheVariants as Fault
+use Rattle.sw_channels.specs.InParts.{GivesFirst}
+use Rattle.sw_talk.specs.Trace.{Entry, Leads}
 use Rattle.sw_session.specs.ServeWrite.{wire_on, wire_off}
 use Rattle.sw_session.specs.ServePoint.{Voice, Point}
 use Rattle.sw_session.specs.ServeHand.{notes_before, availability_notes, HandsOver, HandsOne, HandsUpTo, FailsAt}

@@ -9,15 +9,15 @@ use Rattle.sw_hislip.specs.declared.kind.Kind.{Kind}
 use Rattle.sw_hislip.specs.declared.message.Message.{Message}
 use Rattle.sw_hislip.specs.Pending.{Pending, fed}
 use Rattle.sw_hislip.specs.Stream.{Call, feeds, answers, Decodes, stream_of, told}
-use Rattle.sw_session.specs.declared.engine.step.Sent.{Sent}
-use Rattle.sw_session.specs.Said.{StepSeen}
+use Rattle.sw_channels.specs.declared.step.Sent.{Sent}
+use Rattle.sw_channels.specs.Said.{StepSeen}
 use Rattle.sw_session.specs.Acts.{Act, Takes, Skips, Refuses, Notices}
-use Rattle.sw_session.specs.declared.servers.after_step.AfterStep.{AfterStep}
-use Rattle.sw_session.specs.declared.servers.after_step.AfterStep.TheVariants.{Goes, Ends, Fatal, Malformed}
-use Rattle.sw_session.specs.declared.servers.fault.ServeFault.{ServeFault}
-use Rattle.sw_session.specs.declared.servers.fault.ServeFault.TheVariants as Fault
-use Rattle.sw_session.specs.Trace.{Entry, Leads}
-use Rattle.sw_session.specs.EngineStep.{LedBy}
+use Rattle.sw_session.specs.declared.after_step.AfterStep.{AfterStep}
+use Rattle.sw_session.specs.declared.after_step.AfterStep.TheVariants.{Goes, Ends, Fatal, Malformed}
+use Rattle.sw_session.specs.declared.fault.ServeFault.{ServeFault}
+use Rattle.sw_session.specs.declared.fault.ServeFault.TheVariants as Fault
+use Rattle.sw_talk.specs.Trace.{Entry, Leads}
+use Rattle.sw_channels.specs.EngineStep.{LedBy}
 use Rattle.sw_session.specs.ServeWrite.{wire_on, wire_off}
 use Rattle.sw_session.specs.ServePoint.{Protocol, Voice, Point, point}
 use Rattle.sw_session.specs.ServeHand.{availability_notes, HandsOver, HandsUpTo}

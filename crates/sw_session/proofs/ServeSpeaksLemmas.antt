@@ -3,21 +3,21 @@ use Rattle.std.proofs.Common.{◌≡◌, ℕ, true, false, [], ◌∷◌, Option
 use Rattle.sw_hislip.specs.declared.kind.Kind.{Kind}
 use Rattle.sw_hislip.specs.declared.message.Message.{Message}
 use Rattle.sw_core.specs.declared.ask.Sid.{Sid}
-use Rattle.sw_session.specs.declared.desk.View.{View}
-use Rattle.sw_session.specs.declared.engine.refusals.FatalCode.TheVariants.{PoorlyFormed}
-use Rattle.sw_session.specs.declared.engine.session.State.{State}
-use Rattle.sw_session.specs.declared.engine.session.State.TheVariants.{Unopened, Synchronized, Attached}
-use Rattle.sw_session.specs.declared.engine.step.Channel.{Channel}
-use Rattle.sw_session.specs.declared.engine.step.Channel.TheVariants.{Synchronous, Asynchronous}
-use Rattle.sw_session.specs.declared.servers.fault.ServeFault.{ServeFault}
-use Rattle.sw_session.specs.Said.{StepSeen}
+use Rattle.sw_talk.specs.declared.desk.View.{View}
+use Rattle.sw_channels.specs.declared.refusals.FatalCode.TheVariants.{PoorlyFormed}
+use Rattle.sw_channels.specs.declared.engine.State.{State}
+use Rattle.sw_channels.specs.declared.engine.State.TheVariants.{Unopened, Synchronized, Attached}
+use Rattle.sw_channels.specs.declared.step.Channel.{Channel}
+use Rattle.sw_channels.specs.declared.step.Channel.TheVariants.{Synchronous, Asynchronous}
+use Rattle.sw_session.specs.declared.fault.ServeFault.{ServeFault}
+use Rattle.sw_channels.specs.Said.{StepSeen}
 use Rattle.sw_session.specs.Acts.{Act}
-use Rattle.sw_session.specs.Trace.{Entry, Polled}
-use Rattle.sw_session.specs.EngineStep.{LedBy, goes, says, fails}
-use Rattle.sw_session.specs.Engine.{EngineStanding, fresh_engine, TakesMessage, Falters, session_of, channel_of_state, too_large, skips, notice_from}
-use Rattle.sw_session.specs.Engine.{noticed_from}
+use Rattle.sw_talk.specs.Trace.{Entry, Polled}
+use Rattle.sw_channels.specs.EngineStep.{LedBy, goes, says, fails}
+use Rattle.sw_channels.specs.Engine.{EngineStanding, fresh_engine, TakesMessage, Falters, session_of, channel_of_state, too_large, skips, notice_from}
+use Rattle.sw_channels.specs.Engine.{noticed_from}
 use Rattle.sw_session.specs.ServePoint.{voice, Point}
-use Rattle.sw_session.specs.declared.servers.after_step.AfterStep.TheVariants.{Goes}
+use Rattle.sw_session.specs.declared.after_step.AfterStep.TheVariants.{Goes}
 use Rattle.sw_session.specs.Serve.{RunsChannel, with_desk, LeavesSession, Processes}
 use Rattle.sw_session.specs.ServeEngine.{told_step, second_session_of, LooksFor, Looks, EngineSpeaks, EngineFalters, engine_protocol}
 use Rattle.sw_session.specs.ServeEngine.{Station, manned, ServesChannel}

@@ -9,13 +9,13 @@ use Rattle.sw_hislip.specs.declared.message.Message.{Message}
 use Rattle.sw_hislip.specs.Pending.{Pending, nothing_fed, fed, Waits}
 use Rattle.sw_hislip.specs.Stream.{Call, Follows, EveryMessageComesOut, LeavesARest, stream_of}
 use Rattle.sw_session.specs.Acts.{Act, Notices}
-use Rattle.sw_session.specs.declared.servers.after_step.AfterStep.{AfterStep}
-use Rattle.sw_session.specs.declared.servers.after_step.AfterStep.TheVariants.{Goes, Ends, Fatal, Malformed}
-use Rattle.sw_session.specs.declared.servers.fault.ServeFault.{ServeFault}
-use Rattle.sw_session.specs.declared.servers.fault.ServeFault.TheVariants as Fault
-use Rattle.sw_session.specs.declared.servers.turns.Received.TheVariants as Received
-use Rattle.sw_session.specs.declared.servers.turns.Next.{Next}
-use Rattle.sw_session.specs.declared.servers.turns.Next.TheVariants.{On, Over}
+use Rattle.sw_session.specs.declared.after_step.AfterStep.{AfterStep}
+use Rattle.sw_session.specs.declared.after_step.AfterStep.TheVariants.{Goes, Ends, Fatal, Malformed}
+use Rattle.sw_session.specs.declared.fault.ServeFault.{ServeFault}
+use Rattle.sw_session.specs.declared.fault.ServeFault.TheVariants as Fault
+use Rattle.sw_session.specs.declared.turns.Received.TheVariants as Received
+use Rattle.sw_session.specs.declared.turns.Next.{Next}
+use Rattle.sw_session.specs.declared.turns.Next.TheVariants.{On, Over}
 use Rattle.sw_session.specs.ServeRead.{PausesBy}
 use Rattle.sw_session.specs.ServePoint.{Voice, Point}
 use Rattle.sw_session.specs.Serve.{acts_for, arrived, pauses, Stops, GoesThrough, Judges, ProcessesEach, HoldsMessage, TellsActs, Stands}

@@ -10,12 +10,12 @@ use Rattle.sw_hislip.specs.declared.fault.WireFault.{WireFault}
 use Rattle.sw_hislip.specs.declared.fault.WireFault.TheVariants.{TooLarge, BadPrologue, NoMemory}
 use Rattle.sw_hislip.specs.Pending.{Pending, Waits, HasWrongPrologue, GivesNext}
 use Rattle.sw_session.specs.Acts.{Act, Takes, Skips, Refuses, Notices}
-use Rattle.sw_session.specs.declared.servers.after_step.AfterStep.{AfterStep}
-use Rattle.sw_session.specs.declared.servers.after_step.AfterStep.TheVariants.{Goes, Ends, Fatal, Malformed}
-use Rattle.sw_session.specs.declared.servers.fault.ServeFault.{ServeFault}
-use Rattle.sw_session.specs.declared.servers.fault.ServeFault.TheVariants as Fault
-use Rattle.sw_session.specs.declared.servers.turns.Received.{Received}
-use Rattle.sw_session.specs.declared.servers.turns.Next.{Next}
+use Rattle.sw_session.specs.declared.after_step.AfterStep.{AfterStep}
+use Rattle.sw_session.specs.declared.after_step.AfterStep.TheVariants.{Goes, Ends, Fatal, Malformed}
+use Rattle.sw_session.specs.declared.fault.ServeFault.{ServeFault}
+use Rattle.sw_session.specs.declared.fault.ServeFault.TheVariants as Fault
+use Rattle.sw_session.specs.declared.turns.Received.{Received}
+use Rattle.sw_session.specs.declared.turns.Next.{Next}
 use Rattle.sw_session.specs.ServePoint.{Voice, Point}
 use Rattle.sw_session.specs.Serve.{acts_for, is_refused, pauses, Stops, GoesThrough, Judges, Processes, ProcessesEach, Finds, HoldsMessage}
 use Rattle.sw_session.specs.Serve.{goes_on, GivesHeard, ServesHeard, TellsActs, Stands, Listens, CountsReceived, HearsAll, Course, TakesServerTurn}

@@ -4,14 +4,14 @@ use Rattle.sw_hislip.specs.declared.fault.WireFault.{WireFault}
 use Rattle.sw_hislip.specs.declared.message.Message.{Message}
 use Rattle.sw_hislip.specs.Pending.{Pending}
 use Rattle.sw_session.specs.Beginning.{BeginningSeen}
-use Rattle.sw_session.specs.declared.engine.step.Sent.{Sent}
+use Rattle.sw_channels.specs.declared.step.Sent.{Sent}
 use Rattle.sw_session.specs.Acts.{Act}
-use Rattle.sw_session.specs.declared.servers.after_step.AfterStep.{AfterStep}
-use Rattle.sw_session.specs.declared.servers.channel_server.ChannelServer.{ChannelServer}
-use Rattle.sw_session.specs.declared.servers.fault.ServeFault.{ServeFault}
-use Rattle.sw_session.specs.declared.servers.turns.Next.{Next}
-use Rattle.sw_session.specs.Trace.{Entry}
-use Rattle.sw_session.specs.Engine.{EngineStanding}
+use Rattle.sw_session.specs.declared.after_step.AfterStep.{AfterStep}
+use Rattle.sw_session.specs.declared.channel_server.ChannelServer.{ChannelServer}
+use Rattle.sw_session.specs.declared.fault.ServeFault.{ServeFault}
+use Rattle.sw_session.specs.declared.turns.Next.{Next}
+use Rattle.sw_talk.specs.Trace.{Entry}
+use Rattle.sw_channels.specs.Engine.{EngineStanding}
 use Rattle.sw_session.specs.ServePoint.{Voice, voice, Point}
 use Rattle.sw_session.specs.ServeHand.{HandsOne, Hands}
 use Rattle.sw_session.specs.Serve.{Processes, ServesHeard, Course, TakesServerTurn}

@@ -3,8 +3,8 @@ use Rattle.std.specs.Prelude.{◌≡◌, ℕ, List, [], Option, None, Some}
 use Rattle.sw_hislip.specs.declared.kind.Kind.{Kind}
 use Rattle.sw_hislip.specs.declared.kind.Kind.TheVariants.{AsyncInitialize}
 use Rattle.sw_hislip.specs.Pending.{IsFrontKind}
-use Rattle.sw_session.specs.declared.engine.step.Channel.{Channel}
-use Rattle.sw_session.specs.declared.engine.step.Channel.TheVariants.{Synchronous, Asynchronous}
+use Rattle.sw_channels.specs.declared.step.Channel.{Channel}
+use Rattle.sw_channels.specs.declared.step.Channel.TheVariants.{Synchronous, Asynchronous}
 
 -- which channel of a session it is, and the bytes that were heard on it
 pub record BeginningSeen : Type 0 where

@@ -13,18 +13,18 @@ use Rattle.sw_hislip.specs.Stream.{Call, Decodes, stream_of, told, Follows, IsSt
 use Rattle.sw_core.specs.declared.ask.Sid.{Sid}
 use Rattle.sw_core.specs.declared.ask.SessionAsk.TheVariants as Ask
 use Rattle.sw_core.specs.declared.ask.SessionAnswer.{SessionAnswer}
-use Rattle.sw_session.specs.declared.engine.step.Sent.{Sent}
-use Rattle.sw_session.specs.Said.{StepSeen, fatal_code}
+use Rattle.sw_channels.specs.declared.step.Sent.{Sent}
+use Rattle.sw_channels.specs.Said.{StepSeen, fatal_code}
 use Rattle.sw_session.specs.Acts.{Act, Takes, Skips, Refuses, Notices, asked_by}
-use Rattle.sw_session.specs.declared.servers.after_step.AfterStep.{AfterStep}
-use Rattle.sw_session.specs.declared.servers.after_step.AfterStep.TheVariants.{Goes, Ends, Fatal, Malformed}
-use Rattle.sw_session.specs.declared.servers.fault.ServeFault.{ServeFault}
-use Rattle.sw_session.specs.declared.servers.fault.ServeFault.TheVariants as Fault
-use Rattle.sw_session.specs.declared.servers.turns.Received.{Received}
-use Rattle.sw_session.specs.declared.servers.turns.Received.TheVariants.{End, Bytes, Paused}
-use Rattle.sw_session.specs.declared.servers.turns.Next.{Next}
-use Rattle.sw_session.specs.declared.servers.turns.Next.TheVariants.{On, Over}
-use Rattle.sw_session.specs.Trace.{Entry, Asked, Leads}
+use Rattle.sw_session.specs.declared.after_step.AfterStep.{AfterStep}
+use Rattle.sw_session.specs.declared.after_step.AfterStep.TheVariants.{Goes, Ends, Fatal, Malformed}
+use Rattle.sw_session.specs.declared.fault.ServeFault.{ServeFault}
+use Rattle.sw_session.specs.declared.fault.ServeFault.TheVariants as Fault
+use Rattle.sw_session.specs.declared.turns.Received.{Received}
+use Rattle.sw_session.specs.declared.turns.Received.TheVariants.{End, Bytes, Paused}
+use Rattle.sw_session.specs.declared.turns.Next.{Next}
+use Rattle.sw_session.specs.declared.turns.Next.TheVariants.{On, Over}
+use Rattle.sw_talk.specs.Trace.{Entry, Asked, Leads}
 use Rattle.sw_session.specs.ServeRead.{PausesBy}
 use Rattle.sw_session.specs.ServeWrite.{wire_on, wire_off}
 use Rattle.sw_session.specs.ServePoint.{Protocol, Voice, Point, point}

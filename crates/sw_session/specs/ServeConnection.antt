@@ -1,11 +1,11 @@
 -- What a server of one channel owes: by its desk, its reader and its two writers, before it and after it.
 use Rattle.std.specs.Prelude.{◌≡◌, ℕ, ◌⊎◌, List, Result, Err}
 use Rattle.std.specs.Io.KnownBytes.{prepend_known}
-use Rattle.sw_session.specs.declared.servers.fault.ServeFault.{ServeFault}
-use Rattle.sw_session.specs.declared.servers.fault.ServeFault.TheVariants as Fault
-use Rattle.sw_session.specs.declared.servers.source.ByteSource as ByteSource
-use Rattle.sw_session.specs.declared.servers.writing.Sink as Sink
-use Rattle.sw_session.specs.Trace.{Entry}
+use Rattle.sw_session.specs.declared.fault.ServeFault.{ServeFault}
+use Rattle.sw_session.specs.declared.fault.ServeFault.TheVariants as Fault
+use Rattle.sw_session.specs.declared.source.ByteSource as ByteSource
+use Rattle.sw_session.specs.declared.writing.Sink as Sink
+use Rattle.sw_talk.specs.Trace.{Entry}
 use Rattle.sw_session.specs.ServeRead.{IsLedTo}
 use Rattle.sw_session.specs.ServeEngine.{Station, ServesChannel}
 use Rattle.sw_session.specs.Beginning.{BeginningSeen}

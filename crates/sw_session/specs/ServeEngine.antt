@@ -2,19 +2,19 @@
 use Rattle.std.specs.Prelude.{◌≡◌, ℕ, true, false, List, [], ◌∷◌, Option, None, Some, Result}
 use Rattle.sw_hislip.specs.declared.message.Message.{Message}
 use Rattle.sw_core.specs.declared.ask.Sid.{Sid}
-use Rattle.sw_session.specs.declared.engine.refusals.FatalCode.TheVariants.{PoorlyFormed}
-use Rattle.sw_session.specs.declared.engine.session.State.{State}
-use Rattle.sw_session.specs.declared.engine.session.State.TheVariants.{Attached}
-use Rattle.sw_session.specs.declared.engine.step.Channel.{Channel}
-use Rattle.sw_session.specs.declared.engine.step.Channel.TheVariants.{Asynchronous}
-use Rattle.sw_session.specs.Said.{StepSeen}
+use Rattle.sw_channels.specs.declared.refusals.FatalCode.TheVariants.{PoorlyFormed}
+use Rattle.sw_channels.specs.declared.engine.State.{State}
+use Rattle.sw_channels.specs.declared.engine.State.TheVariants.{Attached}
+use Rattle.sw_channels.specs.declared.step.Channel.{Channel}
+use Rattle.sw_channels.specs.declared.step.Channel.TheVariants.{Asynchronous}
+use Rattle.sw_channels.specs.Said.{StepSeen}
 use Rattle.sw_session.specs.Acts.{Act}
-use Rattle.sw_session.specs.declared.servers.fault.ServeFault.{ServeFault}
-use Rattle.sw_session.specs.Trace.{Entry, Polled}
-use Rattle.sw_session.specs.EngineStep.{goes, says, fails, Unasked}
-use Rattle.sw_session.specs.Engine.{EngineStanding, fresh_engine, TakesMessage, Falters, session_of, channel_of_state}
-use Rattle.sw_session.specs.Engine.{too_large, skips}
-use Rattle.sw_session.specs.Engine.{notice_from, noticed_from}
+use Rattle.sw_session.specs.declared.fault.ServeFault.{ServeFault}
+use Rattle.sw_talk.specs.Trace.{Entry, Polled}
+use Rattle.sw_channels.specs.EngineStep.{goes, says, fails, Unasked}
+use Rattle.sw_channels.specs.Engine.{EngineStanding, fresh_engine, TakesMessage, Falters, session_of, channel_of_state}
+use Rattle.sw_channels.specs.Engine.{too_large, skips}
+use Rattle.sw_channels.specs.Engine.{notice_from, noticed_from}
 use Rattle.sw_session.specs.ServePoint.{Protocol, voice, point}
 use Rattle.sw_session.specs.Serve.{Course, course, ServesAndLeaves}
 

@@ -5,10 +5,10 @@ use Rattle.std.specs.List.{flat_map}
 use Rattle.std.specs.Io.KnownBytes.{Appends}
 use Rattle.sw_hislip.specs.declared.kind.Kind.{Kind}
 use Rattle.sw_core.specs.declared.ask.Sid.{Sid}
-use Rattle.sw_session.specs.declared.engine.step.Sent.{Sent}
-use Rattle.sw_session.specs.declared.servers.fault.ServeFault.{ServeFault}
-use Rattle.sw_session.specs.declared.servers.fault.ServeFault.TheVariants as Fault
-use Rattle.sw_session.specs.Trace.{Entry, Noted, Leads}
+use Rattle.sw_channels.specs.declared.step.Sent.{Sent}
+use Rattle.sw_session.specs.declared.fault.ServeFault.{ServeFault}
+use Rattle.sw_session.specs.declared.fault.ServeFault.TheVariants as Fault
+use Rattle.sw_talk.specs.Trace.{Entry, Noted, Leads}
 use Rattle.sw_session.specs.ServeWrite.{wire_on, wire_off, Wrote}
 use Rattle.sw_session.specs.ServePoint.{Voice, Point}
 

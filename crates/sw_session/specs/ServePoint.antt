@@ -1,10 +1,10 @@
 -- The state of a server of one channel, and what it speaks by.
 use Rattle.std.specs.Prelude.{ℕ, List, Option}
 use Rattle.sw_core.specs.declared.ask.Sid.{Sid}
-use Rattle.sw_session.specs.declared.engine.step.Channel.{Channel}
-use Rattle.sw_session.specs.Said.{StepSeen}
+use Rattle.sw_channels.specs.declared.step.Channel.{Channel}
+use Rattle.sw_channels.specs.Said.{StepSeen}
 use Rattle.sw_session.specs.Acts.{Act}
-use Rattle.sw_session.specs.Trace.{Entry}
+use Rattle.sw_talk.specs.Trace.{Entry}
 
 -- An engine's definition: what it asks and says to an act, and its state then; what it may have asked, and its possible
 -- state, where it found no memory; and which session it has joined.

@@ -1,7 +1,7 @@
 -- What a server makes of its reads.
 use Rattle.std.specs.Prelude.{◌≡◌, ◌≢◌, ◌⊎◌, ℕ, ◌+◌, Option, None, Some, Result, Ok, Err, option_map}
-use Rattle.sw_session.specs.declared.servers.source.Unread.{Unread}
-use Rattle.sw_session.specs.declared.servers.source.Unread.TheVariants.{Paused, Failed}
+use Rattle.sw_session.specs.declared.source.Unread.{Unread}
+use Rattle.sw_session.specs.declared.source.Unread.TheVariants.{Paused, Failed}
 
 -- a read that gave bytes gives just these, and one that gave an error none
 abbrev pub GivesBytes : {E : Type 0} → Result ℕ E → Option (Result ℕ Unread) → Type 0

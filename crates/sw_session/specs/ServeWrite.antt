@@ -2,9 +2,9 @@
 use Rattle.std.specs.Prelude.{◌≡◌, ℕ, Bool, true, false, List, [], ◌++◌, Option, Result, Ok, Err, if◌then◌else◌}
 use Rattle.std.specs.Io.KnownBytes.{Appends}
 use Rattle.sw_hislip.specs.Wire.{wire}
-use Rattle.sw_session.specs.declared.engine.step.Channel.{Channel}
-use Rattle.sw_session.specs.declared.engine.step.Channel.TheVariants.{Synchronous, Asynchronous}
-use Rattle.sw_session.specs.declared.engine.step.Sent.{Sent}
+use Rattle.sw_channels.specs.declared.step.Channel.{Channel}
+use Rattle.sw_channels.specs.declared.step.Channel.TheVariants.{Synchronous, Asynchronous}
+use Rattle.sw_channels.specs.declared.step.Sent.{Sent}
 
 -- a message of that channel goes to the writer of this one
 abbrev pub is_own : Channel → Channel → Bool

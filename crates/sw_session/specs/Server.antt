@@ -1,10 +1,10 @@
 -- A server of one channel, as the relations of a server see it.
 use Rattle.std.specs.Prelude.{◌≡◌, ◌⊎◌}
-use Rattle.sw_session.specs.declared.servers.channel_server.ChannelServer.{ChannelServer}
-use Rattle.sw_session.specs.declared.servers.source.ByteSource as ByteSource
-use Rattle.sw_session.specs.declared.servers.writing.Sink as Sink
-use Rattle.sw_session.specs.Trace.{Entry}
-use Rattle.sw_session.specs.Engine.{EngineStanding}
+use Rattle.sw_session.specs.declared.channel_server.ChannelServer.{ChannelServer}
+use Rattle.sw_session.specs.declared.source.ByteSource as ByteSource
+use Rattle.sw_session.specs.declared.writing.Sink as Sink
+use Rattle.sw_talk.specs.Trace.{Entry}
+use Rattle.sw_channels.specs.Engine.{EngineStanding}
 use Rattle.sw_session.specs.ServePoint.{Voice, voice, Point, point}
 use Rattle.sw_session.specs.ServeRead.{IsLedTo}
 use Rattle.sw_session.specs.Serve.{Course, course}

@@ -1,50 +1,35 @@
-//! Sessions over any desk: the talk about a program message, and HiSLIP's channels.
+//! Sessions over any desk: a channel served over a reader and two writers, with what `sw_talk` and `sw_channels` have.
 //!
-//! A `Desk` takes what a session asks and answers it; its trait says by one relation how the desk may go from state to
-//! state. `CoreDesk` is a desk over a mainframe of its own: it keeps the work that a scan brings, and a wait carries
-//! out the oldest piece. `Talker::message` reads a program message unit by unit (IEEE 488.2, 6.3; SCPI-1999, volume 1,
-//! 6), asks each command, and gives the line of answers; for INITiate it makes the plan of the scan between two asks,
-//! and for READ? it asks for the readings of that scan then. A talker keeps its session's macros (IEEE 488.2, 10.7): a
-//! unit that calls one is replaced by its expansion, and the macro commands change them and ask nothing. The contract
-//! is one relation, `Talked`: what is asked next after each answer, what is written, and the macros after it. The laws:
-//! the message, the macros and the desk's answers leave no choice (`talk_is_determined`), over a mainframe the message,
-//! the macros, what is measured and which calls of cards fail leave none (`core_talk_is_determined`,
-//! `core_rest_is_determined`), where no growth was refused. A desk's work is carried out in the order in which it came
-//! (`work_is_done_in_order`). What a `CoreDesk` does is a run of its mainframe (`core_desk_runs`).
-//!
-//! `Engine` is one of the two channels of a HiSLIP session (IVI-6.1), and its contract is what it asks and says to each
-//! message (`TakesMessage`). `serve_channel` serves a channel over any reader, two writers and any desk: it writes what
-//! the engine says to the messages in what it read, however that was cut (`ServesChannel`). A reader (`ByteSource`)
-//! counts the reads that a time limit ended, where it can; then a server gives up after as many bytes and such reads as
-//! it has turns, and not before.
+//! `serve_channel` serves a channel of a HiSLIP session over any reader, two writers and any desk: it writes what the
+//! engine says to the messages in what it read, however that was cut (`ServesChannel`). A reader (`ByteSource`) counts
+//! the reads that a time limit ended, where it can; then a server gives up after as many bytes and such reads as it has
+//! turns, and not before.
 //!
 //! Not promised: that a desk ever answers anything but a hold, and that memory is there.
 #![tactic(auto)]
 
-mod asking;
-mod available;
-mod core_desk;
-mod desk;
-mod engine;
-mod laws;
-mod line;
-mod macros;
-mod servers;
-mod talker;
-mod work_queue;
+mod after_step;
+mod beginning;
+mod channel;
+mod channel_server;
+mod fault;
+mod processing;
+mod rooms;
+mod sending;
+mod source;
+mod speaking;
+mod turns;
+mod writing;
 
-pub use asking::TURNS;
-pub use available::{Available, Mark, Seating, seating_of};
-pub use core_desk::CoreDesk;
-pub use desk::{Desk, View, Wake};
-pub use engine::{Channel, Engine, Sent, Step};
-pub use laws::{
-    core_desk_runs, core_rest_is_determined, core_talk_is_determined, note_leaves_others,
-    parts_are_one_message, talk_is_determined, work_is_done_in_order,
-    work_is_kept_where_there_is_room,
+pub use beginning::Beginning;
+pub use channel::{serve_async, serve_channel, serve_sync};
+pub use fault::ServeFault;
+pub use source::{ByteSource, Memory, Unread};
+pub use sw_channels::{Channel, Engine, Sent, Step, parts_are_one_message};
+pub use sw_talk::{
+    Available, CoreDesk, Desk, Mark, Seating, Talker, View, Wake, core_desk_runs,
+    core_rest_is_determined, core_talk_is_determined, note_leaves_others, seating_of,
+    talk_is_determined, work_is_done_in_order, work_is_kept_where_there_is_room,
 };
-pub use servers::{
-    Beginning, ByteSource, Memory, ServeFault, Sink, Unread, Unwritten, serve_async, serve_channel,
-    serve_sync, write_all,
-};
-pub use talker::Talker;
+pub use sw_talk::TURNS;
+pub use writing::{Sink, Unwritten, write_all};

@@ -6,9 +6,9 @@ use Rattle.sw_core.specs.declared.ask.Answer.{Answer}
 use Rattle.sw_core.specs.declared.ask.Work.{Work}
 use Rattle.sw_core.specs.Panel.{Panel}
 use Rattle.sw_core.specs.Seen.{WorkSeen, AskSeen, AskSession, SaysSession, answer_seen, work_seen}
-use Rattle.sw_session.specs.CoreDesk.{TellsOfPiece, brought}
-use Rattle.sw_session.specs.Trace.{HandsBackAsk}
-use Rattle.sw_session.proofs.HandedBackLemmas.{handed-back}
+use Rattle.sw_talk.specs.CoreDesk.{TellsOfPiece, brought}
+use Rattle.sw_talk.specs.Trace.{HandsBackAsk}
+use Rattle.sw_talk.proofs.HandedBackLemmas.{handed-back}
 use Rattle.sw_history.specs.Held.{AtDesk}
 use Rattle.sw_history.specs.Asks.{AsksOnce}
 use Rattle.sw_workers.specs.Work.{Adds, AnswersDesk, Brings, EndsPiece}

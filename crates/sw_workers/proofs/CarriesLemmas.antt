@@ -8,7 +8,7 @@ use Rattle.sw_history.specs.Board.{Known}
 use Rattle.sw_history.specs.Held.{AtDesk}
 use Rattle.sw_history.specs.History.{event}
 use Rattle.sw_history.specs.Shares.{is_counted, one_if}
-use Rattle.sw_session.specs.CoreDesk.{brought}
+use Rattle.sw_talk.specs.CoreDesk.{brought}
 use Rattle.sw_workers.specs.Work.{MadeAsk, Carries, Brings, SeesToWork, EndsPiece, IsSentOn, Learns, events_of, left_over}
 
 -- what the mainframe was told

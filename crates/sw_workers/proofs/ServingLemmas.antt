@@ -2,14 +2,14 @@
 use Rattle.std.proofs.Common.{◌≡◌, ◌⊎◌, inl, inr, ℕ, ◌+◌, List, ◌++◌, length, Option, None, Some, Result, Ok, Err, OnOk, OnErr, option_map, ◌∙◌, refl, ap}
 use Rattle.std.proofs.Common.{subst, arith}
 use Rattle.std.specs.Io.KnownBytes.{Consumes, IsAtEnd, prepend_known}
-use Rattle.sw_session.specs.declared.engine.step.Channel.{Channel}
-use Rattle.sw_session.specs.declared.engine.step.Channel.TheVariants.{Synchronous}
-use Rattle.sw_session.specs.declared.servers.fault.ServeFault.{ServeFault}
-use Rattle.sw_session.specs.declared.servers.fault.ServeFault.TheVariants.{Read, Write}
-use Rattle.sw_session.specs.declared.servers.source.Unread.{Unread}
-use Rattle.sw_session.specs.declared.servers.source.Unread.TheVariants.{Paused, Failed}
+use Rattle.sw_channels.specs.declared.step.Channel.{Channel}
+use Rattle.sw_channels.specs.declared.step.Channel.TheVariants.{Synchronous}
+use Rattle.sw_session.specs.declared.fault.ServeFault.{ServeFault}
+use Rattle.sw_session.specs.declared.fault.ServeFault.TheVariants.{Read, Write}
+use Rattle.sw_session.specs.declared.source.Unread.{Unread}
+use Rattle.sw_session.specs.declared.source.Unread.TheVariants.{Paused, Failed}
 use Rattle.sw_session.specs.ServeRead.{CountsPause}
-use Rattle.sw_session.specs.Trace.{Entry}
+use Rattle.sw_talk.specs.Trace.{Entry}
 use Rattle.sw_session.specs.ServeEngine.{Station, ServesChannel}
 use Rattle.sw_session.specs.Beginning.{NamesChannel}
 use Rattle.sw_workers.specs.Connected.{Waited, Mishaps, ConnectionSeen, beside, Fails, ServesFromHeader}

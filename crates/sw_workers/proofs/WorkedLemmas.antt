@@ -5,7 +5,7 @@ use Rattle.std.specs.declared.time.Instant.{Instant}
 use Rattle.sw_cage.specs.declared.job.Ticket.{Ticket}
 use Rattle.sw_core.specs.Panel.{Panel}
 use Rattle.sw_core.specs.Seen.{WorkSeen, AskSeen, Pauses}
-use Rattle.sw_session.specs.CoreDesk.{TellsOfPiece, brought}
+use Rattle.sw_talk.specs.CoreDesk.{TellsOfPiece, brought}
 use Rattle.sw_workers.specs.declared.pauses.Next.TheVariants.{Ends}
 use Rattle.sw_workers.specs.declared.pauses.Pause.{Pause}
 use Rattle.sw_workers.specs.Pauses.{EndsStanding}

@@ -1,14 +1,14 @@
 -- How a connection is served.
 use Rattle.std.specs.Prelude.{◌≡◌, ◌⊎◌, ℕ, List, length, Option, Result, Err}
 use Rattle.std.specs.Io.KnownBytes.{Consumes, IsAtEnd}
-use Rattle.sw_session.specs.declared.engine.step.Channel.{Channel}
-use Rattle.sw_session.specs.declared.engine.step.Channel.TheVariants.{Synchronous}
-use Rattle.sw_session.specs.declared.servers.fault.ServeFault.{ServeFault}
-use Rattle.sw_session.specs.declared.servers.fault.ServeFault.TheVariants.{Read, Write, NoMemory}
-use Rattle.sw_session.specs.declared.servers.source.ByteSource as ByteSource
-use Rattle.sw_session.specs.declared.servers.writing.Sink as Sink
+use Rattle.sw_channels.specs.declared.step.Channel.{Channel}
+use Rattle.sw_channels.specs.declared.step.Channel.TheVariants.{Synchronous}
+use Rattle.sw_session.specs.declared.fault.ServeFault.{ServeFault}
+use Rattle.sw_session.specs.declared.fault.ServeFault.TheVariants.{Read, Write, NoMemory}
+use Rattle.sw_session.specs.declared.source.ByteSource as ByteSource
+use Rattle.sw_session.specs.declared.writing.Sink as Sink
 use Rattle.sw_session.specs.ServeRead.{IsLedTo, PausesBy}
-use Rattle.sw_session.specs.Trace.{Entry}
+use Rattle.sw_talk.specs.Trace.{Entry}
 use Rattle.sw_session.specs.ServeEngine.{Station, ServesChannel}
 use Rattle.sw_session.specs.Beginning.{NamesChannel}
 

@@ -9,11 +9,11 @@ use Rattle.sw_core.specs.declared.ask.SessionAnswer.{SessionAnswer}
 use Rattle.sw_core.specs.Panel.{Panel}
 use Rattle.sw_core.specs.Seen.{WorkSeen, Measures, Pauses, AskSeen, AskSession, AnswerSeen, SaysSession}
 use Rattle.sw_core.specs.Run.{Event}
-use Rattle.sw_session.specs.declared.desk.View.{View}
-use Rattle.sw_session.specs.declared.desk.Wake.{Wake}
-use Rattle.sw_session.specs.declared.desk.Wake.TheVariants.{Again, Over}
-use Rattle.sw_session.specs.Trace.{Entry, Asked, Waited, Polled, Noted}
-use Rattle.sw_session.specs.CoreDesk.{TellsOfPiece, brought}
+use Rattle.sw_talk.specs.declared.desk.View.{View}
+use Rattle.sw_talk.specs.declared.desk.Wake.{Wake}
+use Rattle.sw_talk.specs.declared.desk.Wake.TheVariants.{Again, Over}
+use Rattle.sw_talk.specs.Trace.{Entry, Asked, Waited, Polled, Noted}
+use Rattle.sw_talk.specs.CoreDesk.{TellsOfPiece, brought}
 use Rattle.sw_history.specs.Asks.{AsksOnce}
 use Rattle.sw_history.specs.Board.{Known}
 use Rattle.sw_workers.specs.Waits.{MayEnd, is_leave, serving_after}

@@ -2,8 +2,8 @@
 
 ghost use Rattle.std.specs.Prelude.{◌≡◌, [], None, Some, IfSome};
 ghost use Rattle.sw_core.specs.Seen.{ask_seen, work_seen};
-ghost use Rattle.sw_session.specs.CoreDesk.{TellsOfPiece, piece_seen};
-ghost use Rattle.sw_session.specs.Trace.{LeavesOf};
+ghost use Rattle.sw_talk.specs.CoreDesk.{TellsOfPiece, piece_seen};
+ghost use Rattle.sw_talk.specs.Trace.{LeavesOf};
 ghost use Rattle.sw_history.specs.Opened.{OpensAll};
 ghost use Rattle.sw_workers.specs.Waits.{MayRest, limit_after, number_after, is_leave, serving_after, told_left};
 ghost use Rattle.sw_history.specs.Asks.{AsksOnce};

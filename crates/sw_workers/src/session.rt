@@ -2,7 +2,7 @@
 
 ghost use Rattle.std.specs.Prelude.{◌≡◌, ◌⊎◌, ◌≤◌, ℕ, List, [], Option, Err, length, vec_capacity, OnOk, OnErr};
 ghost use Rattle.std.specs.Io.KnownBytes.{Consumes, IsAtEnd, prepend_known};
-ghost use Rattle.sw_session.specs.Talk.{turns};
+ghost use Rattle.sw_talk.specs.Talk.{turns};
 ghost use Rattle.sw_session.specs.ServeRead.{IsLedTo};
 ghost use Rattle.sw_session.specs.ServeEngine.{ServesChannel};
 ghost use Rattle.sw_workers.specs.Connected.{Waited, mishaps, connection_seen, beside, Fails};

@@ -5,7 +5,7 @@ ghost use Rattle.std.specs.Vec.{vec_capacity};
 ghost use Rattle.sw_base.specs.Limits.{most_slots};
 ghost use Rattle.sw_cage.specs.Accounts.{accounts_of};
 ghost use Rattle.sw_core.specs.Opening.{IsFresh};
-ghost use Rattle.sw_session.specs.CoreDesk.{piece_seen};
+ghost use Rattle.sw_talk.specs.CoreDesk.{piece_seen};
 ghost use Rattle.sw_history.specs.Closing.{IsClosedDown};
 ghost use Rattle.sw_history.specs.History.{pair_of};
 ghost use Rattle.sw_history.specs.Opened.{OpensAll};

@@ -1,7 +1,7 @@
 //! The ways of work to the threads that carry it out.
 
 ghost use Rattle.std.specs.Prelude.{◌≡◌, IfSome, IfNone};
-ghost use Rattle.sw_session.specs.CoreDesk.{piece_seen};
+ghost use Rattle.sw_talk.specs.CoreDesk.{piece_seen};
 
 use crate::pauses::Pause;
 use crossbeam_channel::{Receiver, RecvError, RecvTimeoutError, SendError, Sender};

@@ -1,8 +1,8 @@
 use Rattle.std.proofs.Common.{◌≡◌, ◌<◌, ◌∙◌, Bool, true, false, ℕ, List, [], ◌++◌, length, refl, sym, ap, subst, inl, inr, rules, arith, eqb-true, vec_len}
 use Rattle.std.proofs.lemmas.Bool.{eqb-false}
-use Rattle.sw_session.specs.CoreDesk.{WaitsOut}
+use Rattle.sw_talk.specs.CoreDesk.{WaitsOut}
 use Rattle.sw_session.specs.ServeWrite.{WritesPart}
-use Rattle.sw_session.specs.Talk.{state}
+use Rattle.sw_talk.specs.Talk.{state}
 use Rattle.mainframe.specs.declared.fault.RunFault.TheVariants.{Input, Output}
 use Rattle.mainframe.specs.Turns.{Gathers, stand}
 use Rattle.mainframe.proofs.KeptLemmas.{kept-none}

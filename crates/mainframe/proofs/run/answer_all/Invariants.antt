@@ -1,5 +1,5 @@
 use Rattle.std.specs.Prelude.{◌≡◌, []}
-use Rattle.sw_session.specs.Talk.{state}
+use Rattle.sw_talk.specs.Talk.{state}
 use Rattle.mainframe.specs.Turns.{stand, streams}
 use Rattle.mainframe.proofs.StandLemmas.{ComesTo}
 use Rattle.mainframe.proofs.run.answer_all.Given as goal

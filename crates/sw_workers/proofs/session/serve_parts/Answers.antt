@@ -1,5 +1,5 @@
 use Rattle.std.proofs.Common.{refl, sym, ◌∙◌}
-use Rattle.sw_session.specs.declared.engine.step.Channel.TheVariants.{Synchronous, Asynchronous}
+use Rattle.sw_channels.specs.declared.step.Channel.TheVariants.{Synchronous, Asynchronous}
 use Rattle.sw_workers.proofs.ServingLemmas.{connects, whole-or, of_first, of_second}
 use Rattle.sw_workers.proofs.session.serve_parts.Goals as goal
 

@@ -1,7 +1,7 @@
 use Rattle.std.proofs.Common.{◌≡◌, ◌<◌, ◌∙◌, Bool, true, false, ℕ, List, [], ◌++◌, refl, subst, inl, rules, arith}
-use Rattle.sw_session.specs.CoreDesk.{WaitsOut}
+use Rattle.sw_talk.specs.CoreDesk.{WaitsOut}
 use Rattle.sw_session.specs.ServeWrite.{WritesPart}
-use Rattle.sw_session.specs.Talk.{state}
+use Rattle.sw_talk.specs.Talk.{state}
 use Rattle.mainframe.specs.Turns.{Gathers, stand}
 use Rattle.mainframe.specs.declared.fault.RunFault.TheVariants.{Output}
 use Rattle.mainframe.proofs.TurnLemmas.{unasked-none, unasked-one, unasked-two, gathers-none, keeps-same, at-fault}

@@ -1,7 +1,7 @@
 use Rattle.std.proofs.Common.{ap, sym, subst, ◌∙◌, Option}
 use Rattle.sw_core.specs.Seen.{WorkSeen, work_seen}
-use Rattle.sw_session.specs.CoreDesk.{piece_seen}
-use Rattle.sw_session.proofs.KeepingLemmas.{seen-some}
+use Rattle.sw_talk.specs.CoreDesk.{piece_seen}
+use Rattle.sw_talk.proofs.KeepingLemmas.{seen-some}
 use Rattle.sw_workers.specs.Work.{EndsPiece, IsSentOn}
 use Rattle.sw_workers.proofs.CarriesLemmas.{carries-start, carries-sent, carries-more, sent-none}
 use Rattle.sw_workers.proofs.desk.SharedDesk.carry_piece.Goals as goal

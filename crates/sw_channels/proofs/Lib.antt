@@ -1,0 +1,11 @@
+pub mod CutsLemmas
+pub mod SubAddressLemmas
+pub mod EngineAsksLemmas
+pub mod LockWaitsLemmas
+pub mod AsyncRowsLemmas
+pub mod SyncRowsLemmas
+pub mod SyncAnswersLemmas
+pub mod SyncTalksLemmas
+pub mod SyncShortLemmas
+pub mod PartsLemmas
+pub mod EngineTakesLemmas

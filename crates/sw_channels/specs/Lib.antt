@@ -1,0 +1,9 @@
+pub mod EngineMessages
+pub mod InParts
+pub mod Said
+pub mod EngineKinds
+pub mod EngineStep
+pub mod EngineAsync
+pub mod EngineSync
+pub mod Engine
+pub mod Parts

@@ -1,5 +1,0 @@
-use Rattle.sw_session.proofs.BeginsLemmas.{initiate-planned}
-use Rattle.sw_session.proofs.asking.initiate.Goals as goal
-
-pub returns : goal.returns
-returns g c = initiate-planned g.D.Desk.passes c.args.sid _ _ _ c.settle-told.result c.plan.result c.settle-told.ensures c.plan.ensures

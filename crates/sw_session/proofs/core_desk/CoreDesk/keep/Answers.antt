@@ -1,5 +1,0 @@
-use Rattle.std.proofs.Common.{[], refl}
-use Rattle.sw_session.proofs.core_desk.CoreDesk.keep.Goals as goal
-
-pub returns-in-None : goal.returns-in-None
-returns-in-None g c = record { carried = []; keeps = rw c.in-None.is refl }

@@ -1,5 +1,0 @@
-use Rattle.sw_session.proofs.KeepingLemmas.{WaitedBy}
-use Rattle.sw_session.proofs.core_desk.CoreDesk.wait_all.Given as goal
-
-abbrev pub invariant-loop-turn : goal.invariant-loop-turn
-invariant-loop-turn g l = WaitedBy l.fn.self l._turn l.self

@@ -1,8 +1,0 @@
-use Rattle.std.proofs.Common.{refl}
-use Rattle.sw_core.specs.declared.ask.SessionAsk.TheVariants.{LockInfo}
-use Rattle.sw_session.specs.Trace.{Asked}
-use Rattle.sw_session.proofs.EngineAsksLemmas.{by-one}
-use Rattle.sw_session.proofs.engine.locks.tell_locks.Goals as goal
-
-pub returns : goal.returns
-returns g c = by-one g.D.Desk.passes _ _ _ (Asked (LockInfo c.args.sid) c.ask-answer.result) c.ask-answer.ensures.passes (refl, c.info_reply.ensures)

@@ -1,5 +1,0 @@
-use Rattle.sw_session.proofs.CoreTalkLemmas.{core-rest-determined}
-use Rattle.sw_session.proofs.laws.core_rest_is_determined.Goals as goal
-
-pub returns : goal.returns
-returns c = core-rest-determined c.step_is_determined.ensures

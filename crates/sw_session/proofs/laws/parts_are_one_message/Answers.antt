@@ -1,5 +1,0 @@
-use Rattle.sw_session.proofs.PartsLemmas.{parts-are-one}
-use Rattle.sw_session.proofs.laws.parts_are_one_message.Goals as goal
-
-pub returns : goal.returns
-returns c = parts-are-one

@@ -1,5 +1,0 @@
-use Rattle.sw_session.proofs.OrderLemmas.{kept-where-room}
-use Rattle.sw_session.proofs.laws.work_is_kept_where_there_is_room.Goals as goal
-
-pub returns : goal.returns
-returns c = kept-where-room

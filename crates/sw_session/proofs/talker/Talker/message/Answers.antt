@@ -1,4 +1,0 @@
-use Rattle.sw_session.proofs.talker.Talker.message.Goals as goal
-
-pub returns-clause-talked : goal.returns-clause-talked
-returns-clause-talked g c = c.talk_over-answers.ensures.talked.0

@@ -1,0 +1,9 @@
+pub mod Trace
+pub mod Available
+pub mod CoreDesk
+pub mod Script
+pub mod DeskRuns
+pub mod Macros
+pub mod Talk
+pub mod Law
+pub mod Order
