@@ -16,3 +16,4 @@ pub mod CommandedLemmas
 pub mod HoldsLemmas
 pub mod SeatedLemmas
 pub mod WokenLemmas
+pub mod JoinedLemmas

@@ -31,7 +31,7 @@ some_lacking : (o : Option Seat) → lacks_second o ≡ true → is_some o ≡ t
 some_lacking None h = absurd (cc (h))
 some_lacking (Some seat) h = refl
 
-joined_once : (o : Option Seat) (j : ℕ) → joined_in o ≡ Some j → (seat_in o).joined ≡ j
+pub joined_once : (o : Option Seat) (j : ℕ) → joined_in o ≡ Some j → (seat_in o).joined ≡ j
 joined_once None j h = absurd (cc (h))
 joined_once (Some seat) j h = cc (h)
 

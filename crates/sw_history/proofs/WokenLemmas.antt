@@ -205,7 +205,7 @@ seat_keeps p (Ask.Release s) f (Lock code) o q sid k j e ran runs n t h is =
 seat_keeps p (Ask.LockInfo s) f (Info exclusive m) o q sid k j e ran runs n t h is = served_same p q t is h.2
 seat_keeps p w f a o q sid k j e ran runs n t h is = absurd h
 
-snapshot_keeps : (p : Panel) (f : Bool) (a : SessionAnswer) (q : Panel) → StepSnapshot p f a q → Keeps p q
+pub snapshot_keeps : (p : Panel) (f : Bool) (a : SessionAnswer) (q : Panel) → StepSnapshot p f a q → Keeps p q
 snapshot_keeps p f (answers.Snapshot s number) q h = same_keeps p q h.3
 snapshot_keeps p f (Refused OutOfMemory) q h = same_keeps p q h.2
 snapshot_keeps p f (Refused e) q h = same_keeps p q h.2
@@ -215,7 +215,7 @@ snapshot_keeps p f a q h = absurd h
 idle_keeps : (p q : Panel) → q.sessions ≡ p.sessions → is_running p ≡ false → Keeps p q
 idle_keeps p q s i = keeps_seats p q s (λ r. absurd (true≢false (sym r ∙ i)))
 
-start_keeps : (p : Panel) (plan : Snapshot) (f : Bool) (a : SessionAnswer) (o : Option WorkSeen) (q : Panel) → StepStart p plan f a o q → Keeps p q
+pub start_keeps : (p : Panel) (plan : Snapshot) (f : Bool) (a : SessionAnswer) (o : Option WorkSeen) (q : Panel) → StepStart p plan f a o q → Keeps p q
 start_keeps p plan f (Done None) o q h = idle_keeps p q (ap (λ (x : Panel). x.sessions) h.starts.4) h.may.idle
 start_keeps p plan f (Refused HardwareError) o q h = idle_keeps p q (ap (λ (x : Panel). x.sessions) h.starts.4) h.may.idle
 start_keeps p plan f (Refused OutOfMemory) None q h = same_keeps p q h.3
@@ -223,7 +223,7 @@ start_keeps p plan f (Refused SettingsConflict) None q h = same_keeps p q h.2
 start_keeps p plan f (Refused e) None q h = same_keeps p q h.2
 start_keeps p plan f a o q h = absurd h
 
-fault_keeps : (p : Panel) (sid : Sid) (e : ScpiError) (f : Bool) (a : SessionAnswer) (o : Option WorkSeen) (q : Panel)
+pub fault_keeps : (p : Panel) (sid : Sid) (e : ScpiError) (f : Bool) (a : SessionAnswer) (o : Option WorkSeen) (q : Panel)
     → StepJoined p (Ask.Fault sid e) f a o q → Keeps p q
 fault_keeps p sid e f (Done None) None q h = as_keeps p q (record p { status = _ }) h.1 (keeps_seats p (record p { status = _ }) refl (λ r. r))
 fault_keeps p sid e f a None q h = absurd h.served
@@ -271,13 +271,13 @@ known_keeps p (Ask.LockInfo s) f a None done q sid ran runs k h i =
     served_keeps p (Ask.LockInfo s) f a None done sid k h.joined i.event ran runs i.silent h.step
 known_keeps p w f a o done q sid ran runs k h i = absurd h.step
 
-join_keeps : (p : Panel) (f : Bool) (a : SessionAnswer) (o : Option WorkSeen) (q : Panel) → StepJoin p f a o q → Keeps p q
+pub join_keeps : (p : Panel) (f : Bool) (a : SessionAnswer) (o : Option WorkSeen) (q : Panel) → StepJoin p f a o q → Keeps p q
 join_keeps p f (Joined sid) None q h =
     keeps_joined p q sid.number _ h.1 (ap (λ (x : Panel). x.sessions) h.3) (λ r. ap is_running h.3 ∙ r)
 join_keeps p f Full None q h = same_keeps p q h.2
 join_keeps p f a o q h = absurd h
 
-attach_keeps : (p : Panel) (number : ℕ) (f : Bool) (a : SessionAnswer) (o : Option WorkSeen) (q : Panel) → StepAttach p number f a o q → Keeps p q
+pub attach_keeps : (p : Panel) (number : ℕ) (f : Bool) (a : SessionAnswer) (o : Option WorkSeen) (q : Panel) → StepAttach p number f a o q → Keeps p q
 attach_keeps p number f (Joined sid) None q h = keeps_attached p q number sid h.1 (λ r. ap is_running h.2 ∙ r)
 attach_keeps p number f Stranger None q h = same_keeps p q h.2
 attach_keeps p number f a o q h = absurd h
@@ -376,7 +376,7 @@ session_ends (Max n) p = (refl, refl)
 session_ends (Lock code) p = (refl, refl)
 session_ends (Info exclusive n) p = (refl, refl)
 
-event_ends : (a : AnswerSeen) (p : Panel) → ((concluded a p).sessions ≡ p.sessions) × (is_running (concluded a p) ≡ is_running p)
+pub event_ends : (a : AnswerSeen) (p : Panel) → ((concluded a p).sessions ≡ p.sessions) × (is_running (concluded a p) ≡ is_running p)
 event_ends (SaysSession a o) p = session_ends a p
 event_ends SaysInstalled p = (refl, refl)
 event_ends (SaysNotInstalled refusal) p = (refl, refl)

@@ -10,4 +10,4 @@ pub mod Opened
 pub mod Laws
 pub mod Waking
 pub mod Asks
-pub mod Places
+pub mod Joined

@@ -23,7 +23,7 @@ use crate::laws::whoever_may_go_on_is_woken;
 use crate::note::Note;
 use crate::recorded::{Recorded, Recording};
 use crate::seat::StatusSeat;
-use crate::slots::SeatSlots;
+use crate::seat_slot::SeatSlot;
 use crate::waking::{Concern, turn_after, wakes};
 use circular_buffer::HeapCircularBuffer;
 use std::alloc::{AllocError, Global};
@@ -132,14 +132,13 @@ impl<H: History> DeskPart<H> {
         self.seat.split(board)
     }
 
-    /// Reads the board: not earlier than any that this desk had seen, nor than what the session with this number had
-    /// seen at its last event. It takes the lock of that session's slot alone.
+    /// Reads the board: not earlier than any that this desk had seen, nor than what the seat in this slot had seen. It
+    /// takes the lock of the slot alone.
     pub fn poll<W: Wait>(
         &mut self,
         rt: &W,
-        number: u8,
         board: &StatusBoard<H>,
-        slots: &SeatSlots<H>,
+        slot: &SeatSlot<H>,
     ) -> (u8, u64)
         ensures later { IsPrefix self.old.seat.seen self.new.seat.seen }
         ensures pair { result ≡ last_pair (pair_of H.first) self.new.seat.seen }
@@ -147,7 +146,18 @@ impl<H: History> DeskPart<H> {
         ensures desk { (self.new.seat.desk ≡ self.old.seat.desk) × (self.new.seat.mine ≡ self.old.seat.mine) }
         ensures amount { self.new.amount ≡ self.old.amount }
     {
-        slots.poll(rt, number, board, &mut self.seat)
+        slot.poll(rt, board, &mut self.seat)
+    }
+
+    /// Reads the board: not earlier than any that this desk had seen.
+    pub fn read(&mut self, board: &StatusBoard<H>) -> (u8, u64)
+        ensures later { IsPrefix self.old.seat.seen self.new.seat.seen }
+        ensures pair { result ≡ last_pair (pair_of H.first) self.new.seat.seen }
+        ensures own { (d : ℕ) → self.old.seat.desk ≡ Some d → made_by d self.new.seat.seen ≡ self.old.seat.mine }
+        ensures desk { (self.new.seat.desk ≡ self.old.seat.desk) × (self.new.seat.mine ≡ self.old.seat.mine) }
+        ensures amount { self.new.amount ≡ self.old.amount }
+    {
+        self.seat.read(board)
     }
 
     /// The share of a desk that makes no more asks.

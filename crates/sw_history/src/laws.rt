@@ -1,5 +1,6 @@
 //! Laws over every ask that a desk makes, and over every history.
 
+ghost use Rattle.sw_history.specs.Joined.{SessionsStay};
 ghost use Rattle.sw_history.specs.Laws.{EachEventIsCounted, EveryHistoryIsARun};
 ghost use Rattle.sw_history.specs.Waking.{WhoMayGoOnIsWoken};
 
@@ -16,6 +17,12 @@ pub fn each_event_is_counted()
 /// or a card that fails. Where the turn stays, the mainframe still holds every ask that it held.
 pub fn whoever_may_go_on_is_woken()
     ensures { WhoMayGoOnIsWoken }
+{}
+
+/// A law: a session is joined from its Join on until its own Leave: no other ask, whoever makes it, changes that. Who
+/// attaches is answered a session that is joined.
+pub fn sessions_stay()
+    ensures { SessionsStay }
 {}
 
 /// A law: every history of a mainframe that opened fresh, just made and offered cards, is a run of the core: one event

@@ -22,15 +22,17 @@ mod laws;
 mod note;
 mod recorded;
 mod seat;
-mod slots;
+mod seat_slot;
 mod telling;
 mod waking;
 
 pub use board::{BlankBoard, BoardName, StatusBoard};
 pub use event_kind::{BySession, EventKind, FromOutside};
 pub use held::{DeskPart, Held, History, Lasting};
-pub use laws::{each_event_is_counted, every_history_is_a_run, whoever_may_go_on_is_woken};
+pub use laws::{
+    each_event_is_counted, every_history_is_a_run, sessions_stay, whoever_may_go_on_is_woken,
+};
 pub use note::{AskKind, Note};
 pub use recorded::{Recorded, Recording};
 pub use seat::{LockedPass, StatusSeat};
-pub use slots::{SeatSlots, place_of};
+pub use seat_slot::SeatSlot;

@@ -26,7 +26,7 @@ mod talker;
 mod work_queue;
 
 pub use asking::{TURNS, queue, settle};
-pub use available::{Available, Mark, Seating, seating_of};
+pub use available::{Available, Mark};
 pub use core_desk::CoreDesk;
 pub use desk::{Desk, View, Wake};
 pub use laws::{

@@ -1,5 +1,10 @@
--- What the thread of a session's second connection does once that connection has ended.
-use Rattle.std.specs.Prelude.{ℕ, nat_lt, Bool, if◌then◌else◌}
+-- What the thread of a session's second connection does once that connection has ended, and what a server's end does
+-- with its connections.
+use Rattle.std.specs.Prelude.{ℕ, nat_lt, Bool, true, false, Option, None, Some, if◌then◌else◌}
+use Rattle.sw_channels.specs.declared.step.Channel.{Channel}
+use Rattle.sw_channels.specs.declared.step.Channel.TheVariants.{Synchronous, Asynchronous}
+use Rattle.sw_workers.specs.declared.connections.AtTheEnd.{AtTheEnd}
+use Rattle.sw_workers.specs.declared.connections.AtTheEnd.TheVariants as End
 use Rattle.sw_workers.specs.declared.leaving.AfterEnd.{AfterEnd}
 use Rattle.sw_workers.specs.declared.leaving.AfterEnd.TheVariants.{Leaves, Awaits, Stops}
 
@@ -19,3 +24,11 @@ after_end has_ended unread waited =
     if nat_lt unread unread_time
     then (if has_ended then Awaits else (if nat_lt waited drain_time then Awaits else Stops))
     else Leaves
+
+-- At a server's end a session may finish its current message, so its first connection is read no more, and the second
+-- one ends with the session; a connection without a session is closed. Where it ends at once, all are.
+abbrev pub at_the_end : (channel : Option Channel) → (at_once : Bool) → AtTheEnd
+at_the_end channel true = End.Closes
+at_the_end None false = End.Closes
+at_the_end (Some Synchronous) false = End.Finishes
+at_the_end (Some Asynchronous) false = End.Leaves

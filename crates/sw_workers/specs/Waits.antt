@@ -5,8 +5,6 @@ use Rattle.sw_core.specs.declared.ask.SessionAsk.{SessionAsk}
 use Rattle.sw_core.specs.declared.ask.SessionAsk.TheVariants as Ask
 use Rattle.sw_core.specs.declared.ask.SessionAnswer.{SessionAnswer}
 use Rattle.sw_core.specs.declared.ask.SessionAnswer.TheVariants.{Hold, Joined}
-use Rattle.sw_talk.specs.declared.available.Seating.{Seating}
-use Rattle.sw_talk.specs.declared.available.Seating.TheVariants.{Joins, Stays}
 use Rattle.sw_workers.specs.Limits.{at_most}
 use Rattle.sw_workers.specs.declared.limits.Limit.{Limit}
 use Rattle.sw_workers.specs.declared.desk.Rest.{Rest}
@@ -51,9 +49,3 @@ abbrev pub serving_after : (serves : Option Sid) → (leaves : Bool) → Session
 serving_after serves leaves (Joined sid) = Some sid
 serving_after serves true answer = None
 serving_after serves false answer = serves
-
--- the number of the session whose first channel a desk is, after an ask that is to change the joined sessions like this
-abbrev pub number_after : Option ℕ → Seating → SessionAnswer → Option ℕ
-number_after number Stays answer = number
-number_after number Joins (Joined sid) = Some sid.number
-number_after number seating answer = None

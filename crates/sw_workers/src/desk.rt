@@ -5,17 +5,19 @@ ghost use Rattle.sw_core.specs.Seen.{ask_seen, work_seen};
 ghost use Rattle.sw_talk.specs.CoreDesk.{TellsOfPiece, piece_seen};
 ghost use Rattle.sw_talk.specs.Trace.{LeavesOf};
 ghost use Rattle.sw_history.specs.Opened.{OpensAll};
-ghost use Rattle.sw_workers.specs.Waits.{MayRest, limit_after, number_after, is_leave, serving_after, told_left};
+ghost use Rattle.sw_workers.specs.Waits.{MayRest, limit_after, is_leave, serving_after, told_left};
 ghost use Rattle.sw_history.specs.Asks.{AsksOnce};
 ghost use Rattle.sw_workers.specs.Work.{Brings, SeesToWork, EndsPiece, Deserts, desk_seen, IsRested, Works};
 ghost use Rattle.sw_workers.specs.Work.{none_own};
 ghost use Rattle.sw_workers.specs.declared.desk.Rest.TheVariants.{Deserted};
 
 use crate::gate::{Gate, Point};
+use crate::halves::Coming;
 use crate::leaving::await_served;
 use crate::limits::{Limit, slice_of};
 use crate::mainframe::Mainframe;
-use crate::outboxes::Place;
+use crate::room::Session;
+use crate::serving::Serving;
 use crate::shared::{Shared, Woken};
 use std::alloc::Global;
 use std::sync::{Arc, Wait};
@@ -23,7 +25,7 @@ use std::time::Clock;
 use sw_card::{Meter, Relay};
 use sw_core::{Answer, Ask, SessionAnswer, SessionAsk, Sid, Work};
 use sw_history::{BySession, DeskPart, EventKind, FromOutside};
-use sw_session::{Desk, Seating, View, Wake, seating_of};
+use sw_session::{Desk, View, Wake};
 
 /// The desk of a session or of a worker, which one thread has.
 #[derive(Drop)]
@@ -37,39 +39,16 @@ pub struct SharedDesk<
     pub(crate) part: DeskPart<H>,
     pub(crate) shared: Arc<Shared<H, R, M, G>, Global>,
     pub(crate) rt: W,
-    /// Where the threads of its session leave bytes to each other.
-    pub(crate) place: Arc<Place, Global>,
+    /// What its thread serves.
+    pub(crate) serving: Arc<Serving<H>, Global>,
+    /// The session that it joined or attached to.
+    session: Option<Session<H>>,
     /// The mainframe's turn after the last ask.
     seen: u64,
-    /// The number of the session whose synchronous channel this is.
-    number: Option<u8>,
     /// The limit of the wait for a held ask. It continues from wait to wait.
     limit: Option<Limit>,
     /// The session that the desk serves.
     pub(crate) serves: Option<Sid>,
-}
-
-/// The number of the session whose synchronous channel a desk is, after an ask and its answer.
-fn number_after(number: Option<u8>, seating: Seating, answer: &SessionAnswer) -> Option<u8>
-    ensures { result ≡ number_after number seating answer.now }
-{
-    match (seating, answer) {
-        (Seating::Stays, _) => number,
-        (Seating::Joins, SessionAnswer::Joined(sid)) => Some(sid.number),
-        _ => None,
-    }
-}
-
-/// The same after an ask of any kind: what no session asked changes it nowhere.
-fn number_next<R: Relay, M: Meter, E: EventKind<R, M>>(
-    number: Option<u8>,
-    seating: Seating,
-    answer: &E::Answer,
-) -> Option<u8> {
-    match E::session_answer(answer) {
-        Some(answer) => number_after(number, seating, answer),
-        None => number,
-    }
 }
 
 /// Whether the ask leaves a session.
@@ -156,15 +135,15 @@ impl<H: Mainframe, R: Relay, M: Meter, G: Gate + Drop, W: Wait + Clock + Copy + 
         let Ok(shared) = Arc::try_clone(shared) else {
             return None;
         };
-        let place = shared.place()?;
+        let serving = shared.serving()?;
         let part = shared.part(&rt)?;
         Some(SharedDesk {
             part,
             shared,
             rt,
-            place,
+            serving,
+            session: None,
             seen: 0,
-            number: None,
             limit: None,
             serves: None,
         })
@@ -229,7 +208,7 @@ impl<H: Mainframe, R: Relay, M: Meter, G: Gate + Drop, W: Wait + Clock + Copy + 
         ensures { Brings H.first (ask_seen ask) self.old.part (work_seen result) self.new.part }
     {
         let mut answer = Answer::Missed;
-        self.act::<FromOutside>(Seating::Stays, ask, &mut answer, &mut ());
+        self.act::<FromOutside>(Coming::Nobody, ask, &mut answer, &mut ());
         let told = answer;
         match told {
             Answer::Taken(work) => work,
@@ -240,12 +219,12 @@ impl<H: Mainframe, R: Relay, M: Meter, G: Gate + Drop, W: Wait + Clock + Copy + 
         }
     }
 
-    /// Makes an ask of any kind. `seating`: how it is to change which sessions have joined. It leaves the answer in
-    /// `answer`, and what comes beside it in `left`.
+    /// Makes an ask of any kind, which is to bring such a session. It leaves the answer in `answer`, and what comes
+    /// beside it in `left`.
     #[inline(always)]
     fn act<E: EventKind<R, M>>(
         &mut self,
-        seating: Seating,
+        coming: Coming<H>,
         ask: E::Ask,
         answer: &mut E::Answer,
         left: &mut E::Left,
@@ -254,21 +233,53 @@ impl<H: Mainframe, R: Relay, M: Meter, G: Gate + Drop, W: Wait + Clock + Copy + 
         ensures { AsksOnce H.first (E.asked ask) (E.answered answer.new left.new)
             self.old.part self.new.part }
     {
-        self.seen = self
+        let (turn, session) = self
             .shared
-            .act::<E, W>(&self.rt, &mut self.part, seating, ask, answer, left);
-        self.number = number_next::<R, M, E>(self.number, seating, answer);
+            .act::<E, W>(&self.rt, &mut self.part, coming, ask, answer, left);
+        self.seen = turn;
+        if let Some(session) = session {
+            self.serving.learn(&self.rt, &session);
+            self.session = Some(session);
+        }
         self.leave_seen();
     }
 
-    /// The desk that joined is that of the session's synchronous channel. It leaves what it has seen in the session's
-    /// slot, until the session has left.
+    /// Leaves what the desk has seen for its session's next look at its status.
     #[inline(always)]
     fn leave_seen(&mut self)
         ensures { self.new.part ≡ self.old.part }
     {
-        if let Some(number) = self.number {
-            self.shared.leave(&self.rt, number, &mut self.part);
+        if let Some(session) = &self.session {
+            self.shared.leave_seen(&self.rt, session, &mut self.part);
+        }
+    }
+
+    /// Which session this ask is to bring, or to take away.
+    #[inline(always)]
+    fn coming(&self, ask: &SessionAsk) -> Coming<H> {
+        match ask {
+            SessionAsk::Join => Coming::Joins(self.serving.room(&self.rt)),
+            SessionAsk::Attach(_) => Coming::Attaches,
+            SessionAsk::Leave(sid) => Coming::Leaves(*sid),
+            _ => Coming::Nobody,
+        }
+    }
+
+    /// Whether the ask leaves the session that this desk joined or attached to.
+    #[inline(always)]
+    fn leaves_own(&self, ask: &SessionAsk) -> bool {
+        match (ask, &self.session) {
+            (SessionAsk::Leave(sid), Some(session)) => *sid == session.sid(),
+            _ => false,
+        }
+    }
+
+    /// The desk has left its session, whose lines end.
+    fn end_session(&mut self)
+        ensures { self.new.part ≡ self.old.part }
+    {
+        if let Some(session) = self.session.take() {
+            session.end(&self.rt);
         }
     }
 
@@ -296,9 +307,9 @@ impl<H: Mainframe, R: Relay, M: Meter, G: Gate + Drop, W: Wait + Clock + Copy + 
         ensures over { limit ≡ None → MayRest H.over H.deserted None result }
         ensures gone { result ≡ Deserted → H.deserted }
     {
-        self.place.note_wait(&self.rt, true);
+        self.serving.note_wait(&self.rt, true);
         let rest = self.rest_on(limit);
-        self.place.note_wait(&self.rt, false);
+        self.serving.note_wait(&self.rt, false);
         rest
     }
 
@@ -317,7 +328,7 @@ impl<H: Mainframe, R: Relay, M: Meter, G: Gate + Drop, W: Wait + Clock + Copy + 
             match self.shared.wait(&rt, self.seen, slice_of(left)) {
                 Woken::Turned => return Rest::Again(at_present(&rt, limit)),
                 Woken::Closing => return Rest::Over,
-                Woken::Unchanged if self.place.is_deserted::<H, W>(&rt) => return Rest::Deserted,
+                Woken::Unchanged if self.serving.is_deserted(&rt) => return Rest::Deserted,
                 Woken::Unchanged => {}
             }
         }
@@ -368,15 +379,18 @@ impl<H: Mainframe, R: Relay, M: Meter, G: Gate + Drop, W: Wait + Clock + Copy + 
 
     fn ask_into(&mut self, ask: SessionAsk, answer: &mut SessionAnswer) {
         self.shared.gate().pass(&self.rt, Point::Ask);
-        if let SessionAsk::Release(_) = &ask {
-            await_served(&self.rt, &*self.place);
+        if let (SessionAsk::Release(_), Some(session)) = (&ask, &self.session) {
+            await_served(&self.rt, session);
         }
-        let seating = seating_of(&ask);
+        let coming = self.coming(&ask);
         let serves = self.serves;
         let leaves = is_leave(&ask);
+        let leaves_own = self.leaves_own(&ask);
         let mut work = None;
-        self.act::<BySession>(seating, ask, answer, &mut work);
-        self.place.follow(&self.rt, seating, answer);
+        self.act::<BySession>(coming, ask, answer, &mut work);
+        if leaves_own {
+            self.end_session();
+        }
         self.carry(work);
         self.limit = limit_after(self.limit, answer);
         self.serves = serving_after(serves, leaves, answer);
@@ -401,10 +415,18 @@ impl<H: Mainframe, R: Relay, M: Meter, G: Gate + Drop, W: Wait + Clock + Copy + 
     }
 
     fn poll(&mut self, sid: Sid) -> View {
-        self.shared.poll(&self.rt, &mut self.part, sid)
+        let own = match &self.session {
+            Some(session) if session.sid() == sid => Some(session),
+            _ => None,
+        };
+        self.shared.poll(&self.rt, &mut self.part, own)
     }
 
     fn note(&mut self, sid: Sid, mav: bool) {
-        self.shared.note(&self.rt, sid, mav);
+        if let Some(session) = &self.session {
+            if session.sid() == sid {
+                session.note(mav);
+            }
+        }
     }
 }

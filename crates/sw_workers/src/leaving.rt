@@ -3,7 +3,9 @@
 ghost use Rattle.std.specs.Prelude.{◌≡◌};
 ghost use Rattle.sw_workers.specs.Leaving.{after_end};
 
-use crate::outboxes::Place;
+use crate::mainframe::Mainframe;
+use crate::room::Session;
+use crate::serving::Serving;
 use std::sync::Wait;
 use std::thread;
 use std::time::{Clock, Duration};
@@ -45,11 +47,11 @@ fn after_end(has_ended: bool, unread_ms: u64, waited_ms: u64) -> AfterEnd
 
 /// Waits at the end of a second connection until the session has left, or is to be left. What had come on its first
 /// connection is served before that.
-pub fn await_left<W: Wait + Clock>(rt: &W, place: &Place) {
+pub fn await_left<H: Mainframe, W: Wait + Clock>(rt: &W, serving: &Serving<H>) {
     let mut waited_ms = 0_u64;
     let mut unread_ms = 0_u64;
     for _ in rt.forever() {
-        let Some(first) = place.first_line(rt) else {
+        let Some(first) = serving.first_line(rt) else {
             return;
         };
         match after_end(first.has_ended(), unread_ms, waited_ms) {
@@ -72,10 +74,10 @@ const RELEASE_LOOKS: u32 = 1_000;
 
 /// Waits until what had come on the session's first connection is served, or waits for something else, and for a second
 /// at most. Two looks one after another have to find it so: bytes may have been taken right before one.
-pub fn await_served<W: Wait + Clock>(rt: &W, place: &Place) {
+pub fn await_served<H: Mainframe, W: Wait + Clock>(rt: &W, session: &Session<H>) {
     let mut was_served = false;
     for _ in 0..RELEASE_LOOKS {
-        let Some(first) = place.first_line(rt) else {
+        let Some(first) = session.first_line(rt) else {
             return;
         };
         let is_served = first.is_served();

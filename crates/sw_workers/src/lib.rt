@@ -14,31 +14,33 @@
 //! slot, each as it was there at the end of the history, but with nothing closed.
 //!
 //! `run_session` serves one connection of a HiSLIP session by such a desk, as the channel that its first header names.
-//! `serve_channel` promises what it asks and writes for what it reads (`RunsSession`). What the first channel's thread
-//! says on the second one waits in the session's slot, under a lock of its own, until the other thread writes it. The
-//! next session of that number never finds it (`Waiting::open`).
+//! `serve_channel` promises what it asks and writes for what it reads (`RunsSession`). The two threads of a session
+//! share a room, in which what the first one says on the second connection waits, under a lock of its own, until the
+//! second one writes it. A later session of that number has another room.
 //!
 //! No contract says when or whether a thread continues, nor how late a status is that a seat reads.
 #![tactic(auto)]
 
-mod available;
 mod closing;
 mod connection;
+mod connections;
 mod desk;
-mod ends;
 mod gate;
+mod halves;
 mod keepalive;
 mod leaving;
 mod limits;
 mod line;
+mod lines;
 mod mainframe;
 mod opening_relays;
-mod outboxes;
 mod pauses;
-mod porch;
 mod reading;
+mod room;
+mod serving;
 mod session;
 mod shared;
+mod side;
 mod tried;
 mod work_channels;
 mod workers;

@@ -1,7 +1,7 @@
 //! Which mainframe it is, to its threads.
 
 use crate::line::Hearing;
-use crate::outboxes::Outbox;
+use crate::side::Outbox;
 use crate::work_channels::{Carrier, Receiving};
 use std::marker::Brand;
 use sw_history::History;

@@ -7,7 +7,8 @@ ghost use Rattle.sw_workers.specs.Connected.{Waited};
 
 use crate::connection::Connection;
 use crate::leaving::await_left;
-use crate::outboxes::Place;
+use crate::mainframe::Mainframe;
+use crate::serving::Serving;
 use std::marker::Model;
 use std::sync::Wait;
 use std::time::Clock;
@@ -17,9 +18,9 @@ use sw_session::{ByteSource, Channel, Sink, Unread, Unwritten};
 /// Reads until a header is whole, or the input ends or fails. It repeats a read that a time limit ended, until the
 /// connection has been open for too long.
 #[tactic(auto, using(crate::proofs::ServingLemmas::waited_none, crate::proofs::ServingLemmas::waited_on))]
-pub fn read_header<R: ByteSource, W: Wait + Clock>(
+pub fn read_header<H: Mainframe, R: ByteSource, W: Wait + Clock>(
     rt: &W,
-    place: &Place,
+    serving: &Serving<H>,
     reader: &mut R,
     header: &mut Vec<u8>,
 ) -> Result<(), Unread>
@@ -33,7 +34,7 @@ pub fn read_header<R: ByteSource, W: Wait + Clock>(
         if header.len() >= HEADER {
             return Ok(());
         }
-        let _ = place.end_overdue(rt, false);
+        let _ = serving.end_overdue(rt, false);
         let mut bytes = [0_u8; HEADER];
         let room = HEADER - header.len();
         match reader.receive(&mut bytes[..room]) {
@@ -54,10 +55,10 @@ pub fn read_header<R: ByteSource, W: Wait + Clock>(
 /// comes once what had come on the first connection is served. Contracts see the reader, and the second way to the
 /// client.
 #[derive(Drop)]
-pub struct Reading<'a, C: Connection, W: Wait + Clock + Drop> {
+pub struct Reading<'a, H: Mainframe, C: Connection, W: Wait + Clock + Drop> {
     pub reader: C::In,
     pub aside: C::Aside,
-    pub place: &'a Place,
+    pub serving: &'a Serving<H>,
     pub rt: W,
     pub channel: Channel,
     /// The connection was told that it has joined.
@@ -68,7 +69,7 @@ pub struct Reading<'a, C: Connection, W: Wait + Clock + Drop> {
     pub has_failed: bool,
 }
 
-impl<'a, C: Connection, W: Wait + Clock + Drop> Model for Reading<'a, C, W> {
+impl<'a, H: Mainframe, C: Connection, W: Wait + Clock + Drop> Model for Reading<'a, H, C, W> {
     ghost use Rattle.std.specs.Prelude.{◌≡◌, true};
     ghost use Rattle.sw_session.specs.ServeRead.{IsLedTo};
     ghost use Rattle.sw_workers.specs.Connected.{ReadingSeen};
@@ -80,7 +81,7 @@ impl<'a, C: Connection, W: Wait + Clock + Drop> Model for Reading<'a, C, W> {
     ghost invariant = { λ s. s.has_failed ≡ true → IsLedTo C.In.failed s.reader };
 }
 
-impl<C: Connection, W: Wait + Clock + Drop> ByteSource for Reading<'_, C, W> {
+impl<H: Mainframe, C: Connection, W: Wait + Clock + Drop> ByteSource for Reading<'_, H, C, W> {
     ghost use Rattle.std.specs.Prelude.{◌⊎◌};
     ghost use Rattle.sw_session.specs.ServeRead.{IsLedTo};
 
@@ -92,13 +93,13 @@ impl<C: Connection, W: Wait + Clock + Drop> ByteSource for Reading<'_, C, W> {
 
     fn receive(&mut self, buffer: &mut [u8]) -> Result<usize, Unread> {
         if !self.is_joined {
-            self.is_joined = is_joined::<C, W>(&self.rt, self.place, &self.reader);
+            self.is_joined = is_joined::<H, C, W>(&self.rt, self.serving, &self.reader);
         }
         if !self.is_paired {
-            self.is_paired = is_paired(&self.rt, self.place, self.channel);
+            self.is_paired = is_paired(&self.rt, self.serving, self.channel);
         }
         let is_second = self.channel == Channel::Asynchronous;
-        if is_second && forward(&self.rt, self.place, &mut self.aside).is_err() {
+        if is_second && forward(&self.rt, self.serving, &mut self.aside).is_err() {
             return Err(Unread::Failed);
         }
         if self.has_failed {
@@ -106,17 +107,21 @@ impl<C: Connection, W: Wait + Clock + Drop> ByteSource for Reading<'_, C, W> {
         }
         let read = self.reader.receive(buffer);
         if is_second && matches!(read, Ok(0) | Err(Unread::Failed)) {
-            await_left(&self.rt, self.place);
+            await_left(&self.rt, self.serving);
         }
         read
     }
 }
 
 /// Whether the connection has a session, as which it has joined then.
-fn is_joined<C: Connection, W: Wait>(rt: &W, place: &Place, reader: &C::In) -> bool {
-    match place.session(rt) {
-        Some(sid) => {
-            C::joined(reader, sid.number);
+fn is_joined<H: Mainframe, C: Connection, W: Wait>(
+    rt: &W,
+    serving: &Serving<H>,
+    reader: &C::In,
+) -> bool {
+    match serving.number(rt) {
+        Some(number) => {
+            C::joined(reader, number);
             true
         }
         None => false,
@@ -125,19 +130,27 @@ fn is_joined<C: Connection, W: Wait>(rt: &W, place: &Place, reader: &C::In) -> b
 
 /// Ends a line that has been open for too long, and gives whether its session has both connections. Where it has, the
 /// reads of a first channel have no limit.
-fn is_paired<W: Wait + Clock>(rt: &W, place: &Place, channel: Channel) -> bool {
-    let is_paired = place.end_overdue(rt, true);
+fn is_paired<H: Mainframe, W: Wait + Clock>(
+    rt: &W,
+    serving: &Serving<H>,
+    channel: Channel,
+) -> bool {
+    let is_paired = serving.end_overdue(rt, true);
     if is_paired && channel == Channel::Synchronous {
-        place.listen_long(rt);
+        serving.listen_long(rt);
     }
     is_paired
 }
 
 /// Writes what the session's other thread left, if anything.
-fn forward<A: Sink, W: Wait>(rt: &W, place: &Place, aside: &mut A) -> Result<(), Unwritten>
+fn forward<H: Mainframe, A: Sink, W: Wait>(
+    rt: &W,
+    serving: &Serving<H>,
+    aside: &mut A,
+) -> Result<(), Unwritten>
     ensures { OnErr result (IsLedTo A.failed aside.new) }
 {
-    match place.take(rt) {
+    match serving.take_side(rt) {
         Some(left) => aside.deliver(left.as_slice()),
         None => Ok(()),
     }

@@ -13,10 +13,9 @@ use crate::connection::Connection;
 use crate::desk::SharedDesk;
 use crate::gate::Gate;
 use crate::mainframe::Mainframe;
-use crate::outboxes::Place;
 use crate::reading::{Reading, read_header};
+use crate::serving::Serving;
 use std::alloc::Global;
-use std::marker::PhantomData;
 use std::sync::{Arc, Wait};
 use std::time::Clock;
 use sw_card::{Meter, Relay};
@@ -47,9 +46,8 @@ pub struct Ended<D: Drop, R: Drop, O: Drop, A: Drop> {
 /// that.
 #[derive(Drop)]
 struct SideWriter<'a, H: Mainframe, W: Wait + Drop> {
-    place: &'a Place,
+    serving: &'a Serving<H>,
     rt: W,
-    of: PhantomData<H>,
 }
 
 impl<H: Mainframe, W: Wait + Drop> Sink for SideWriter<'_, H, W> {
@@ -60,7 +58,7 @@ impl<H: Mainframe, W: Wait + Drop> Sink for SideWriter<'_, H, W> {
     ghost failed = { λ _ _. H.refused };
 
     fn deliver(&mut self, bytes: &[u8]) -> Result<(), Unwritten> {
-        match self.place.append::<H, W>(&self.rt, bytes) {
+        match self.serving.append(&self.rt, bytes) {
             Ok(()) => Ok(()),
             Err(_) => Err(Unwritten),
         }
@@ -111,17 +109,17 @@ pub fn run_session<
         aside,
     };
     let rt = desk.rt;
-    let Ok(place) = Arc::try_clone(&desk.place) else {
+    let Ok(serving) = Arc::try_clone(&desk.serving) else {
         return unbegun(wire, desk);
     };
     let Ok(header) = Vec::with_capacity(alloc, HEADER) else {
         return unbegun(wire, desk);
     };
-    if !place.begin(&rt, line) {
+    if !serving.begin(&rt, line) {
         return unbegun(wire, desk);
     }
-    let ended = serve_parts::<H, C, _, W>(rt, alloc, header, wire, desk, &*place);
-    ended.desk.place.finish(&rt);
+    let ended = serve_parts::<H, C, _, W>(rt, alloc, header, wire, desk, &*serving);
+    ended.desk.serving.finish(&rt);
     ended
 }
 
@@ -156,9 +154,9 @@ fn unbegun<I: Drop, O: Drop, A: Drop, D: Drop>(wire: Parts<I, O, A>, desk: D) ->
 }
 
 /// Limits each read, and reads until the first header is whole, or the input ends or fails.
-fn hear_header<C: Connection, W: Wait + Clock>(
+fn hear_header<H: Mainframe, C: Connection, W: Wait + Clock>(
     rt: &W,
-    place: &Place,
+    serving: &Serving<H>,
     reader: &mut C::In,
     header: &mut Vec<u8>,
 ) -> Result<(), Unread>
@@ -171,7 +169,7 @@ fn hear_header<C: Connection, W: Wait + Clock>(
     if C::set_limit(reader, LIMIT_MS).is_err() {
         return Err(Unread::Failed);
     }
-    read_header(rt, place, reader, header)
+    read_header(rt, serving, reader, header)
 }
 
 /// Reads the first header, and serves the channel that it names.
@@ -181,7 +179,7 @@ fn serve_parts<H: Mainframe, C: Connection, D: Desk + Drop, W: Wait + Clock + Co
     header: Vec<u8>,
     wire: Parts<C::In, C::Out, C::Aside>,
     desk: D,
-    place: &Place,
+    serving: &Serving<H>,
 ) -> Ended<D, C::In, C::Out, C::Aside>
     requires { (header.items ≡ []) × (16 ≤ vec_capacity header) }
     ensures { ServesFromHeader D.passes
@@ -196,13 +194,13 @@ fn serve_parts<H: Mainframe, C: Connection, D: Desk + Drop, W: Wait + Clock + Co
         aside,
     } = wire;
     let mut header = header;
-    let has_failed = hear_header::<C, W>(&rt, place, &mut reader, &mut header).is_err();
+    let has_failed = hear_header::<H, C, W>(&rt, serving, &mut reader, &mut header).is_err();
     let beginning = Beginning::heard(header);
     let channel = beginning.channel();
-    let source = Reading::<C, W> {
+    let source = Reading::<H, C, W> {
         reader,
         aside,
-        place,
+        serving,
         rt,
         channel,
         is_joined: false,
@@ -211,11 +209,7 @@ fn serve_parts<H: Mainframe, C: Connection, D: Desk + Drop, W: Wait + Clock + Co
     };
     match channel {
         Channel::Synchronous => {
-            let side = SideWriter {
-                place,
-                rt,
-                of: PhantomData::<H>,
-            };
+            let side = SideWriter { serving, rt };
             serve_from(alloc, beginning, source, (writer, side), desk)
         }
         Channel::Asynchronous => serve_from(alloc, beginning, source, (writer, Nowhere), desk),
@@ -223,10 +217,16 @@ fn serve_parts<H: Mainframe, C: Connection, D: Desk + Drop, W: Wait + Clock + Co
 }
 
 /// Serves a channel from what was heard on, with a writer and a side writer.
-fn serve_from<C: Connection, S: Sink + Drop, D: Desk + Drop, W: Wait + Clock + Drop>(
+fn serve_from<
+    H: Mainframe,
+    C: Connection,
+    S: Sink + Drop,
+    D: Desk + Drop,
+    W: Wait + Clock + Drop,
+>(
     alloc: Global,
     beginning: Beginning,
-    source: Reading<'_, C, W>,
+    source: Reading<'_, H, C, W>,
     writers: (C::Out, S),
     desk: D,
 ) -> Ended<D, C::In, C::Out, C::Aside>

@@ -15,13 +15,15 @@ ghost use Rattle.sw_history.specs.Asks.{AsksOnce};
 ghost use Rattle.sw_workers.specs.Work.{ReadsStatus};
 ghost use Rattle.sw_workers.specs.declared.shared.Woken.TheVariants.{Closing};
 
-use crate::available::AvailableRows;
 use crate::closing::{Closed, gather, take_cards};
+use crate::connections::Connections;
 use crate::desk::SharedDesk;
 use crate::gate::Gate;
+use crate::halves::{Coming, Halves};
 use crate::mainframe::Mainframe;
 use crate::opening_relays::open_relays;
-use crate::outboxes::{Outboxes, Place};
+use crate::room::Session;
+use crate::serving::Serving;
 use crate::tried::lock_soon;
 use crate::work_channels::{WorkReceivers, WorkSenders, work_posts};
 use crossbeam_utils::CachePadded;
@@ -30,9 +32,9 @@ use std::sync::ledger::Blank;
 use std::sync::{Arc, Condvar, Mutex, Wait};
 use std::time::{Clock, Duration};
 use sw_card::{Card, Meter, Relay};
-use sw_core::{Core, Sid, Work, runs_go_on};
-use sw_history::{BlankBoard, DeskPart, EventKind, Held, Note, Recorded, SeatSlots, StatusBoard};
-use sw_session::{Seating, View};
+use sw_core::{Core, Work, runs_go_on};
+use sw_history::{BlankBoard, DeskPart, EventKind, Held, Note, Recorded, StatusBoard};
+use sw_session::View;
 
 /// How many parts a ledger has.
 const PARTS: u64 = (1 << 33) + 1;
@@ -89,27 +91,31 @@ fn outcome_of(seen: u64, turn: u64, is_closing: bool) -> Woken
 /// What the threads share beside the mainframe itself, and the ends of the channels of its work.
 #[derive(Drop)]
 struct Rooms<H: Mainframe, M: Meter> {
-    slots: SeatSlots<H>,
-    available: AvailableRows,
-    outboxes: Arc<Outboxes, Global>,
+    halves: Halves<H>,
+    connections: Arc<Connections, Global>,
     senders: WorkSenders<M>,
     receivers: WorkReceivers<M>,
 }
 
 impl<H: Mainframe, M: Meter> Rooms<H, M> {
     fn new(alloc: Global) -> Result<Self, AllocError> {
-        let slots = SeatSlots::new(alloc)?;
-        let available = AvailableRows::new(alloc)?;
-        let outboxes = Arc::new(alloc, Outboxes::new(alloc)?)?;
+        let halves = Halves::new(alloc)?;
+        let connections = Arc::new(alloc, Connections::new(alloc)?)?;
         let (senders, receivers) = work_posts(alloc)?;
         Ok(Rooms {
-            slots,
-            available,
-            outboxes,
+            halves,
+            connections,
             senders,
             receivers,
         })
     }
+}
+
+/// What is behind the lock: the mainframe, and which sessions lack their second channel.
+#[derive(Drop)]
+struct Locked<H: Mainframe, R: Relay, M: Meter> {
+    held: Held<H, R, M>,
+    halves: Halves<H>,
 }
 
 /// What a new mainframe keeps behind its lock, and the status board that it publishes to.
@@ -148,18 +154,36 @@ fn shared_twice<H: Mainframe>(
     Ok((copy, board))
 }
 
+/// Follows an ask of any kind by its answer, and gives the session that it brings the desk, if any.
+#[inline(always)]
+fn followed<H: Mainframe, R: Relay, M: Meter, E: EventKind<R, M>>(
+    halves: &mut Halves<H>,
+    coming: Coming<H>,
+    answer: &E::Answer,
+) -> Option<Session<H>> {
+    if let Coming::Nobody = coming {
+        return None;
+    }
+    match E::session_answer(answer) {
+        Some(answer) => halves.follow(coming, answer),
+        None => {
+            drop(coming);
+            None
+        }
+    }
+}
+
 /// What all threads share.
 #[derive(Drop)]
 pub struct Shared<H: Mainframe, R: Relay, M: Meter, G: Gate + Drop> {
     /// On cache lines of its own: what is beside it is read by threads that don't have the lock.
-    held: CachePadded<Mutex<Held<H, R, M>>>,
+    locked: CachePadded<Mutex<Locked<H, R, M>>>,
     /// Wakes the threads that wait: something happened that may admit a held ask.
     happened: Condvar,
     board: Arc<StatusBoard<H>, Global>,
-    slots: SeatSlots<H>,
     senders: Mutex<Option<WorkSenders<M>>>,
-    available: AvailableRows,
-    outboxes: Arc<Outboxes, Global>,
+    connections: Arc<Connections, Global>,
+    alloc: Global,
     gate: G,
 }
 
@@ -186,20 +210,18 @@ impl<H: Mainframe, R: Relay, M: Meter, G: Gate + Drop> Shared<H, R, M, G> {
             }
         };
         let Rooms {
-            slots,
-            available,
-            outboxes,
+            halves,
+            connections,
             senders,
             receivers,
         } = rooms;
         let shared = Shared {
-            held: CachePadded::new(Mutex::new(held)),
+            locked: CachePadded::new(Mutex::new(Locked { held, halves })),
             happened: Condvar::new(),
             board,
-            slots,
             senders: Mutex::new(Some(senders)),
-            available,
-            outboxes,
+            connections,
+            alloc,
             gate,
         };
         Ok((shared, receivers))
@@ -210,63 +232,45 @@ impl<H: Mainframe, R: Relay, M: Meter, G: Gate + Drop> Shared<H, R, M, G> {
         &self.gate
     }
 
-    /// Where one more desk notes its session. None where there is no memory.
-    pub fn place(&self) -> Option<Arc<Place, Global>> {
-        let alloc = self.outboxes.alloc();
-        let outboxes = Arc::try_clone(&self.outboxes).ok()?;
-        Arc::new(alloc, Place::new(outboxes)).ok()
+    /// What the thread of one more desk serves: nothing yet. None where there is no memory.
+    pub fn serving(&self) -> Option<Arc<Serving<H>, Global>> {
+        let connections = Arc::try_clone(&self.connections).ok()?;
+        Arc::new(self.alloc, Serving::new(self.alloc, connections)).ok()
     }
 
     /// A part for one more desk. None where there are 2^33 desks, or the end has begun.
     pub fn part<W: Wait>(&self, rt: &W) -> Option<DeskPart<H>>
         ensures { IfSome result (λ part. (part.amount ≡ 0) × (part.seat.mine ≡ [])) }
     {
-        self.held.lock(rt).new_part()
+        self.locked.lock(rt).held.new_part()
     }
 
-    /// Makes an ask of any kind under the lock, and gives the turn after it. If it changes the turn, it wakes the
-    /// threads that wait. `seating`: how the ask is to change which sessions have joined; the notes of available
-    /// messages follow that. It leaves the answer in `answer`, and what comes beside it in `left`.
+    /// Makes an ask of any kind under the lock, and gives the turn after it, and the session that it brings the desk.
+    /// If it changes the turn, it wakes the threads that wait. It leaves the answer in `answer`, and what comes beside
+    /// it in `left`.
     #[inline(always)]
     pub fn act<E: EventKind<R, M>, W: Wait>(
         &self,
         rt: &W,
         part: &mut DeskPart<H>,
-        seating: Seating,
+        coming: Coming<H>,
         ask: E::Ask,
         answer: &mut E::Answer,
         left: &mut E::Left,
-    ) -> u64
+    ) -> (u64, Option<Session<H>>)
         requires { E.is_blank left.old }
         ensures { AsksOnce H.first (E.asked ask) (E.answered answer.new left.new) part.old part.new }
     {
-        let mut guard = lock_soon(&self.held, rt);
-        let before = guard.turn();
-        guard.act::<E>(part, ask, answer, left);
-        self.follow::<E, W>(rt, &guard, seating, answer);
-        let turn = guard.turn();
+        let mut guard = lock_soon(&self.locked, rt);
+        let before = guard.held.turn();
+        guard.held.act::<E>(part, ask, answer, left);
+        let session = followed::<H, R, M, E>(&mut guard.halves, coming, answer);
+        let turn = guard.held.turn();
         drop(guard);
         if turn != before {
             self.happened.notify_all();
         }
-        turn
-    }
-
-    /// Follows a session that joins or leaves, while the mainframe is locked.
-    #[inline(always)]
-    fn follow<E: EventKind<R, M>, W: Wait>(
-        &self,
-        rt: &W,
-        _locked: &Held<H, R, M>,
-        seating: Seating,
-        answer: &E::Answer,
-    ) {
-        if let Seating::Stays = seating {
-            return;
-        }
-        if let Some(answer) = E::session_answer(answer) {
-            self.available.follow(rt, seating, answer);
-        }
+        (turn, session)
     }
 
     /// Ends the scan that runs and opens every relay under one lock, and wakes the threads that wait. It gives the turn
@@ -274,9 +278,9 @@ impl<H: Mainframe, R: Relay, M: Meter, G: Gate + Drop> Shared<H, R, M, G> {
     pub fn open_all<W: Wait>(&self, rt: &W, part: &mut DeskPart<H>) -> u64
         ensures { OpensAll H.first part.new }
     {
-        let mut guard = lock_soon(&self.held, rt);
-        open_relays(&mut guard, part);
-        let turn = guard.turn();
+        let mut guard = lock_soon(&self.locked, rt);
+        open_relays(&mut guard.held, part);
+        let turn = guard.held.turn();
         drop(guard);
         self.happened.notify_all();
         turn
@@ -298,55 +302,61 @@ impl<H: Mainframe, R: Relay, M: Meter, G: Gate + Drop> Shared<H, R, M, G> {
     pub fn wait<W: Wait + Clock>(&self, rt: &W, seen: u64, ms: u32) -> Woken
         ensures { result ≡ Closing → H.over }
     {
-        let guard = self.held.lock(rt);
+        let guard = self.locked.lock(rt);
         let (guard, _) = self.happened.wait_timeout_while(
             rt,
             guard,
             Duration::from_millis(ms as u64),
-            |held| outcome_of(seen, held.turn(), held.is_closing()) == Woken::Unchanged,
+            |locked| {
+                outcome_of(seen, locked.held.turn(), locked.held.is_closing()) == Woken::Unchanged
+            },
         );
-        outcome_of(seen, guard.turn(), guard.is_closing())
+        outcome_of(seen, guard.held.turn(), guard.held.is_closing())
     }
 
-    /// Leaves in a session's slot what the desk of its synchronous channel has seen.
-    pub fn leave<W: Wait>(&self, rt: &W, number: u8, part: &mut DeskPart<H>)
+    /// Leaves what the desk of a session's first channel has seen, for the session's next look at its status.
+    pub fn leave_seen<W: Wait>(&self, rt: &W, session: &Session<H>, part: &mut DeskPart<H>)
         ensures { part.new ≡ part.old }
     {
-        self.slots.leave(rt, number, part.reader(&self.board));
+        session.leave_seen(rt, part, &self.board);
     }
 
-    /// Looks at a session's status. It doesn't wait for the mainframe.
-    pub fn poll<W: Wait>(&self, rt: &W, part: &mut DeskPart<H>, sid: Sid) -> View
+    /// Looks at the status of a desk's session, or of one that has no message for it. It doesn't wait for the mainframe.
+    pub fn poll<W: Wait>(
+        &self,
+        rt: &W,
+        part: &mut DeskPart<H>,
+        session: Option<&Session<H>>,
+    ) -> View
         ensures { ReadsStatus H.first result part.old part.new }
     {
-        let (byte, requests) = part.poll(rt, sid.number, &self.board, &self.slots);
-        let mav = self.available.has(rt, sid);
-        View {
-            byte,
-            requests,
-            mav,
+        match session {
+            Some(session) => session.look(rt, part, &self.board),
+            None => {
+                let (byte, requests) = part.read(&self.board);
+                View {
+                    byte,
+                    requests,
+                    mav: false,
+                }
+            }
         }
-    }
-
-    /// Notes whether a message is available for a session.
-    pub fn note<W: Wait>(&self, rt: &W, sid: Sid, mav: bool) {
-        self.available.note(rt, sid, mav);
     }
 
     /// The notes of the last 64 events, the oldest first.
     pub fn recent<W: Wait>(&self, rt: &W) -> Result<Vec<Note>, AllocError> {
-        self.held.lock(rt).recent()
+        self.locked.lock(rt).held.recent()
     }
 
     /// Serves no connection that comes from now on, and reads nothing more from those that it serves: each session ends
     /// after its current message. Or it ends all connections at once.
     pub fn end_lines<W: Wait>(&self, rt: &W, is_at_once: bool) {
-        self.outboxes.end_all(rt, is_at_once);
+        self.connections.end_all(rt, is_at_once);
     }
 
     /// Ends every wait, and sends no more work: workers end once they have taken what was sent.
     pub fn end_work<W: Wait>(&self, rt: &W) {
-        self.held.lock(rt).close();
+        self.locked.lock(rt).held.close();
         self.happened.notify_all();
         let ended = self.senders.lock(rt).take();
         drop(ended);
@@ -368,7 +378,8 @@ impl<H: Mainframe, R: Relay, M: Meter, G: Gate + Drop> Shared<H, R, M, G> {
             IsClosedDown H.first closed.events (accounts_of closed.cards.items)) }
         ensures back { IfErr result (λ back. back.items ≡ desks.items) }
     {
-        let mut held = self.held.lock(rt);
+        let mut guard = self.locked.lock(rt);
+        let held = &mut guard.held;
         if !held.is_at_rest() {
             return Err(desks);
         }
@@ -379,7 +390,7 @@ impl<H: Mainframe, R: Relay, M: Meter, G: Gate + Drop> Shared<H, R, M, G> {
         let mut all = gather(spare, desks);
         let events = held.number(&mut all);
         let mut part = held.last_part(all.split_off(1, 0));
-        let cards = take_cards(&mut held, &mut part, room);
+        let cards = take_cards(held, &mut part, room);
         Ok(Closed { events, cards })
     }
 }

@@ -3,7 +3,6 @@
 ghost use Rattle.std.specs.Prelude.{◌≡◌, ◌<◌, ◌^◌, ℕ, Some};
 ghost use Rattle.sw_history.specs.Board.{pair_in};
 
-use std::alloc::Global;
 use std::marker::Brand;
 use std::process::Abort;
 use std::sync::atomic::{AtomicBool, Ordering};
@@ -11,7 +10,7 @@ use std::sync::{Mutex, Wait};
 use std::test::*;
 use std::thread;
 use std::thread::{Threads, join};
-use sw_history::{BlankBoard, BoardName, LockedPass, SeatSlots};
+use sw_history::{BlankBoard, BoardName, LockedPass, SeatSlot};
 use sw_workers::{StatusBoard, StatusSeat};
 
 /// How often a thread looks whether another has come so far.
@@ -165,7 +164,7 @@ fn requests_never_go_down(rt: HostRuntime) -> Result<(), Fail> {
 fn by_its_slot<B: BoardName + Send + Sync, W: Threads + Wait + Abort + Sync>(
     rt: &W,
     blank: BlankBoard,
-    slots: &SeatSlots<B>,
+    slot: &SeatSlot<B>,
 )
     requires { (blank.table.shared.table_id ≡ B.table) × (blank.table.shared.key ≡ B.opening) }
 {
@@ -176,8 +175,8 @@ fn by_its_slot<B: BoardName + Send + Sync, W: Threads + Wait + Abort + Sync>(
     let left = AtomicBool::new(false);
     let ((), pair) = join(
         rt,
-        || leaves(rt, &board, &lock, slots, desk, &left),
-        || polls(rt, &board, slots, seat, &left),
+        || leaves(rt, &board, &lock, slot, desk, &left),
+        || polls(rt, &board, slot, seat, &left),
     );
     assert!(rt; pair == (68, 1));
 }
@@ -186,42 +185,40 @@ fn leaves<B: BoardName, W: Wait>(
     rt: &W,
     board: &StatusBoard<B>,
     lock: &Mutex<LockedPass<B>>,
-    slots: &SeatSlots<B>,
+    slot: &SeatSlot<B>,
     mut desk: StatusSeat<B>,
     left: &AtomicBool,
 )
     requires { (d : ℕ) × (desk.desk ≡ Some d) }
 {
     publishes(rt, board, lock, &mut desk, 68, 1);
-    slots.leave(rt, 16, desk.split(board));
+    slot.leave(rt, desk.split(board));
     left.store(true, Ordering::SeqCst);
 }
 
 fn polls<B: BoardName, W: Wait>(
     rt: &W,
     board: &StatusBoard<B>,
-    slots: &SeatSlots<B>,
+    slot: &SeatSlot<B>,
     mut seat: StatusSeat<B>,
     left: &AtomicBool,
 ) -> (u8, u64) {
     let _ = waits_for(left);
-    slots.poll(rt, 16, board, &mut seat)
+    slot.poll(rt, board, &mut seat)
 }
 
-fn with_slots<B: BoardName + Send + Sync, W: Threads + Wait + Abort + Sync>(
+fn with_slot<B: BoardName + Send + Sync, W: Threads + Wait + Abort + Sync>(
     rt: &W,
-    alloc: Global,
     blank: BlankBoard,
-) -> Result<(), Fail>
+)
     requires { (blank.table.shared.table_id ≡ B.table) × (blank.table.shared.key ≡ B.opening) }
 {
-    let slots = SeatSlots::<B>::new(alloc)?;
-    by_its_slot(rt, blank, &slots);
-    Ok(())
+    by_its_slot(rt, blank, &SeatSlot::<B>::new());
 }
 
 #[test]
 fn a_session_polls_what_its_event_left(rt: HostRuntime) -> Result<(), Fail> {
     let blank = BlankBoard::new(rt.alloc(), (0, 0))?;
-    with_slots::<Brand, _>(&rt, rt.alloc(), blank)
+    with_slot::<Brand, _>(&rt, blank);
+    Ok(())
 }

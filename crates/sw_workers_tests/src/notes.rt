@@ -3,12 +3,13 @@
 use crate::shop::{join, played, tells};
 use crate::threads::{Scene, shows};
 use std::alloc::Global;
-use sw_core::{SessionAsk, Sid};
+use sw_core::{SessionAnswer, SessionAsk, Sid};
 use sw_kinds::SimSource;
 use sw_session::{Desk, Wake};
 use sw_workers::{AskKind, Note, Open};
 
-/// A session asks for service, and another desk looks at its status. Gives the desks back, where all went as it should.
+/// A session asks for service, and the desk of its second channel looks at its status. Gives the desks back, where all
+/// went as it should.
 pub fn looks<D: Desk + Drop + Send + 'static>(
     alloc: Global,
     first: D,
@@ -18,6 +19,9 @@ pub fn looks<D: Desk + Drop + Send + 'static>(
     let mut first = first;
     let mut second = second;
     let sid = join(&mut first)?;
+    if !attaches(&mut second, sid) {
+        return None;
+    }
     let is_told = tells(alloc, &mut first, sid, b"*SRE 4;FOO", b"");
     first.note(sid, true);
     let is_seen = shows(&mut second, sid, 4, 1, true);
@@ -29,10 +33,21 @@ pub fn looks<D: Desk + Drop + Send + 'static>(
     None
 }
 
+/// Whether the desk is now that of the session's second channel.
+fn attaches<D: Desk>(desk: &mut D, sid: Sid) -> bool {
+    match desk.ask(SessionAsk::Attach(sid.number)) {
+        SessionAnswer::Joined(told) => told == sid,
+        other => {
+            drop(other);
+            false
+        }
+    }
+}
+
 #[test]
 fn a_session_is_looked_at_by_another_desk(rt: HostRuntime) {
     let last = Note {
-        number: 5,
+        number: 6,
         ask: AskKind::Fault,
     };
     assert!(rt; played(rt, rt.alloc(), SimSource::new(1, 1), Open, &Scene::Looked) == Some(last));
@@ -43,15 +58,16 @@ fn has_message<D: Desk>(desk: &mut D, sid: Sid) -> bool {
     desk.poll(sid).mav
 }
 
-/// Whether notes of a session that left change nothing for the one that has its number now.
-fn is_unchanged<D: Desk>(desk: &mut D, left: Sid, now: Sid) -> bool {
-    desk.note(left, true);
-    let begins_without = !has_message(desk, now) && !has_message(desk, left);
-    desk.note(now, true);
-    desk.note(left, true);
-    let has_its_own = has_message(desk, now) && !has_message(desk, left);
-    desk.note(left, false);
-    begins_without && has_its_own && has_message(desk, now)
+/// Whether notes of a session that left, by its desk and by the one that has its number now, change nothing for the
+/// latter.
+fn is_unchanged<D: Desk>(old: &mut D, left: Sid, new: &mut D, now: Sid) -> bool {
+    old.note(left, true);
+    new.note(left, true);
+    let begins_without = !has_message(new, now) && !has_message(old, left);
+    new.note(now, true);
+    old.note(left, false);
+    new.note(left, false);
+    begins_without && has_message(new, now) && !has_message(new, left)
 }
 
 /// Session 2 leaves with a message, and another one has its number. Gives the desks back, where all went as it should.
@@ -66,13 +82,13 @@ pub fn is_succeeded<D: Desk + Drop + Send + 'static>(
     let one = join(&mut first)?;
     let left = join(&mut second)?;
     second.note(left, true);
-    let was_noted = has_message(&mut first, left);
+    let was_noted = has_message(&mut second, left);
     drop(second.ask(SessionAsk::Leave(left)));
     let now = join(&mut third)?;
     let is_same_number = left.number == 2 && now.number == 2;
     if was_noted
         && is_same_number
-        && is_unchanged(&mut first, left, now)
+        && is_unchanged(&mut second, left, &mut third, now)
         && !has_message(&mut first, one)
     {
         return Some((first, second, third));

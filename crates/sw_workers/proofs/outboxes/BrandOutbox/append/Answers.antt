@@ -1,5 +1,0 @@
-use Rattle.sw_workers.proofs.SideLemmas.{refused-so}
-use Rattle.sw_workers.proofs.outboxes.BrandOutbox.append.Goals as goal
-
-pub returns-clause-refused : goal.returns-clause-refused
-returns-clause-refused c = refused-so c.args.waiting.now c.args.joined c.args.bytes.now c.append.result c.append.new.self c.append.ensures
