@@ -219,8 +219,8 @@ impl<H: Mainframe, R: Relay, M: Meter, G: Gate + Drop, W: Wait + Clock + Copy + 
         }
     }
 
-    /// Makes an ask of any kind, which is to bring such a session. It leaves the answer in `answer`, and what comes
-    /// beside it in `left`.
+    /// Makes an ask of any kind, which is to bring such a session, or to take it away. It leaves the answer in `answer`,
+    /// and what comes beside it in `left`.
     #[inline(always)]
     fn act<E: EventKind<R, M>>(
         &mut self,
@@ -233,6 +233,7 @@ impl<H: Mainframe, R: Relay, M: Meter, G: Gate + Drop, W: Wait + Clock + Copy + 
         ensures { AsksOnce H.first (E.asked ask) (E.answered answer.new left.new)
             self.old.part self.new.part }
     {
+        let leaves = self.is_left_by(&coming);
         let (turn, session) = self
             .shared
             .act::<E, W>(&self.rt, &mut self.part, coming, ask, answer, left);
@@ -240,6 +241,9 @@ impl<H: Mainframe, R: Relay, M: Meter, G: Gate + Drop, W: Wait + Clock + Copy + 
         if let Some(session) = session {
             self.serving.learn(&self.rt, &session);
             self.session = Some(session);
+        }
+        if leaves {
+            self.end_session();
         }
         self.leave_seen();
     }
@@ -254,6 +258,14 @@ impl<H: Mainframe, R: Relay, M: Meter, G: Gate + Drop, W: Wait + Clock + Copy + 
         }
     }
 
+    /// Waits until it is this ask's turn: a release waits for what had come on the session's first connection.
+    #[inline(always)]
+    fn await_turn(&self, ask: &SessionAsk) {
+        if let (SessionAsk::Release(_), Some(session)) = (ask, &self.session) {
+            await_served(&self.rt, session);
+        }
+    }
+
     /// Which session this ask is to bring, or to take away.
     #[inline(always)]
     fn coming(&self, ask: &SessionAsk) -> Coming<H> {
@@ -265,11 +277,11 @@ impl<H: Mainframe, R: Relay, M: Meter, G: Gate + Drop, W: Wait + Clock + Copy + 
         }
     }
 
-    /// Whether the ask leaves the session that this desk joined or attached to.
+    /// Whether the session that this desk joined or attached to is to leave.
     #[inline(always)]
-    fn leaves_own(&self, ask: &SessionAsk) -> bool {
-        match (ask, &self.session) {
-            (SessionAsk::Leave(sid), Some(session)) => *sid == session.sid(),
+    fn is_left_by(&self, coming: &Coming<H>) -> bool {
+        match (coming, &self.session) {
+            (Coming::Leaves(sid), Some(session)) => *sid == session.sid(),
             _ => false,
         }
     }
@@ -379,18 +391,12 @@ impl<H: Mainframe, R: Relay, M: Meter, G: Gate + Drop, W: Wait + Clock + Copy + 
 
     fn ask_into(&mut self, ask: SessionAsk, answer: &mut SessionAnswer) {
         self.shared.gate().pass(&self.rt, Point::Ask);
-        if let (SessionAsk::Release(_), Some(session)) = (&ask, &self.session) {
-            await_served(&self.rt, session);
-        }
+        self.await_turn(&ask);
         let coming = self.coming(&ask);
         let serves = self.serves;
         let leaves = is_leave(&ask);
-        let leaves_own = self.leaves_own(&ask);
         let mut work = None;
         self.act::<BySession>(coming, ask, answer, &mut work);
-        if leaves_own {
-            self.end_session();
-        }
         self.carry(work);
         self.limit = limit_after(self.limit, answer);
         self.serves = serving_after(serves, leaves, answer);
