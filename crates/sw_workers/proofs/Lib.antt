@@ -5,5 +5,4 @@ mod OpenedLemmas
 mod AbortedLemmas
 mod AskedLemmas
 mod ServingLemmas
-mod SideLemmas
 mod WaitedLemmas

@@ -6,13 +6,11 @@ use Rattle.sw_channels.specs.declared.step.Channel.{Channel}
 use Rattle.sw_channels.specs.declared.step.Channel.TheVariants.{Synchronous}
 use Rattle.sw_session.specs.declared.fault.ServeFault.{ServeFault}
 use Rattle.sw_session.specs.declared.fault.ServeFault.TheVariants.{Read, Write}
-use Rattle.sw_session.specs.declared.source.Unread.{Unread}
-use Rattle.sw_session.specs.declared.source.Unread.TheVariants.{Paused, Failed}
-use Rattle.sw_session.specs.ServeRead.{CountsPause}
 use Rattle.sw_talk.specs.Trace.{Entry}
 use Rattle.sw_session.specs.ServeEngine.{Station, ServesChannel}
 use Rattle.sw_session.specs.Beginning.{NamesChannel}
-use Rattle.sw_workers.specs.Connected.{Waited, Mishaps, ConnectionSeen, beside, Fails, ServesFromHeader}
+use Rattle.sw_connections.specs.Reads.{Waited}
+use Rattle.sw_workers.specs.Connected.{Mishaps, ConnectionSeen, beside, Fails, ServesFromHeader}
 
 -- the same run, of an input that it consumed as well
 serves-as : {D : Type 0} (passes : D → Entry → D → Type 0) (own : Channel) (turns : ℕ) (before after : Station D)
@@ -53,19 +51,6 @@ pub whole-or : {A E : Type 0} (P Q F U : Type 0) (result : Result A E) → (F �
 whole-or P Q F U (Ok x) f (inl p) e = inl p
 whole-or P Q F U (Ok x) f (inr q) e = inr (inl q)
 whole-or P Q F U (Err x) f o e = inr (inr (f e))
-
--- no read came
-pub waited_none : (p : Option ℕ) → Waited p p
-waited_none None = record { reads = 0; counts = refl }
-waited_none (Some n) = record { reads = 0; counts = ap Some (omega (arith)) }
-
--- a read more: where a time limit ended it, one more has been ended
-pub waited_on : (old mid new : Option ℕ) (read : Result ℕ Unread) → Waited old mid → CountsPause mid new read → Waited old new
-waited_on old mid new (Ok n) w c = record { reads = w.reads; counts = c ∙ w.counts }
-waited_on old mid new (Err Failed) w c = record { reads = w.reads; counts = c ∙ w.counts }
-waited_on None mid new (Err Paused) w c = record { reads = w.reads + 1; counts = c ∙ ap (option_map (λ m. m + 1)) w.counts }
-waited_on (Some o) mid new (Err Paused) w c =
-    record { reads = w.reads + 1; counts = c ∙ ap (option_map (λ m. m + 1)) w.counts ∙ ap Some (omega (arith)) }
 
 pub connects : {D : Type 0} (passes : D → Entry → D → Type 0) (m : Mishaps) (turns : ℕ) (before after : ConnectionSeen D) (rest : Option (List ℕ))
     (pauses : Option ℕ) (result : Result (Unit {0}) ServeFault) (header bytes : List ℕ) (channel own : Channel)

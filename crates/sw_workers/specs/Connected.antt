@@ -7,15 +7,11 @@ use Rattle.sw_session.specs.declared.fault.ServeFault.{ServeFault}
 use Rattle.sw_session.specs.declared.fault.ServeFault.TheVariants.{Read, Write, NoMemory}
 use Rattle.sw_session.specs.declared.source.ByteSource as ByteSource
 use Rattle.sw_session.specs.declared.writing.Sink as Sink
-use Rattle.sw_session.specs.ServeRead.{IsLedTo, PausesBy}
+use Rattle.sw_session.specs.ServeRead.{IsLedTo}
 use Rattle.sw_talk.specs.Trace.{Entry}
 use Rattle.sw_session.specs.ServeEngine.{Station, ServesChannel}
 use Rattle.sw_session.specs.Beginning.{NamesChannel}
-
--- what the thread of a connection reads from: its reader, and the second way to the client
-pub record ReadingSeen (R A : Type 0) : Type 0 where
-  pub reader : R
-  pub aside : A
+use Rattle.sw_connections.specs.Reads.{Waited}
 
 -- such a step was made, between some states
 abbrev pub Fails : {S : Type 0} → (S → S → Type 0) → Type 0
@@ -62,11 +58,6 @@ connection_seen desk input pauses output = record { desk = desk; input = input; 
 -- the same as a channel's server that has this with its side writer
 abbrev pub beside : {D : Type 0} → Option (List ℕ) → ConnectionSeen D → Station D
 beside side a = record { desk = a.desk; input = a.input; pauses = a.pauses; main = a.output; side = side }
-
--- time limits ended some reads meanwhile, and their count, where it is known, rose by as many
-pub record Waited (before after : Option ℕ) : Type 0 where
-  pub reads : ℕ
-  pub counts : PausesBy before after reads
 
 -- A connection is served from its first byte on, as the channel that its first header names. The header is whole,
 -- unless the input ended or failed in it; time limits may have ended reads in it. After a run that ends by a read

@@ -5,8 +5,8 @@ use Rattle.sw_core.specs.declared.ask.SessionAsk.{SessionAsk}
 use Rattle.sw_core.specs.declared.ask.SessionAsk.TheVariants as Ask
 use Rattle.sw_core.specs.declared.ask.SessionAnswer.{SessionAnswer}
 use Rattle.sw_core.specs.declared.ask.SessionAnswer.TheVariants.{Hold, Joined}
-use Rattle.sw_workers.specs.Limits.{at_most}
-use Rattle.sw_workers.specs.declared.limits.Limit.{Limit}
+use Rattle.sw_connections.specs.Limits.{at_most}
+use Rattle.sw_connections.specs.declared.limits.Limit.{Limit}
 use Rattle.sw_workers.specs.declared.desk.Rest.{Rest}
 use Rattle.sw_workers.specs.declared.desk.Rest.TheVariants.{Again, Over, Deserted}
 use Rattle.sw_workers.specs.declared.shared.Woken.{Woken}

@@ -1,7 +1,6 @@
 -- What a desk asks, and the work that it carries out.
 use Rattle.std.specs.Prelude.{◌≡◌, ◌+◌, ◌⊎◌, ℕ, List, [], ◌∷◌, Option, None, Some}
 use Rattle.std.specs.declared.time.Instant.{Instant}
-use mathlib.Core.List.{IsPrefix}
 use Rattle.sw_core.specs.declared.ask.Sid.{Sid}
 use Rattle.sw_core.specs.declared.ask.SessionAsk.{SessionAsk}
 use Rattle.sw_core.specs.declared.ask.SessionAsk.TheVariants as Ask
@@ -9,17 +8,16 @@ use Rattle.sw_core.specs.declared.ask.SessionAnswer.{SessionAnswer}
 use Rattle.sw_core.specs.Panel.{Panel}
 use Rattle.sw_core.specs.Seen.{WorkSeen, Measures, Pauses, AskSeen, AskSession, AnswerSeen, SaysSession}
 use Rattle.sw_core.specs.Run.{Event}
-use Rattle.sw_talk.specs.declared.desk.View.{View}
 use Rattle.sw_talk.specs.declared.desk.Wake.{Wake}
 use Rattle.sw_talk.specs.declared.desk.Wake.TheVariants.{Again, Over}
 use Rattle.sw_talk.specs.Trace.{Entry, Asked, Waited, Polled, Noted}
 use Rattle.sw_talk.specs.CoreDesk.{TellsOfPiece, brought}
 use Rattle.sw_history.specs.Asks.{AsksOnce}
+use Rattle.sw_connections.specs.Reads.{ReadsStatus}
 use Rattle.sw_history.specs.Board.{Known}
 use Rattle.sw_workers.specs.Waits.{MayEnd, is_leave, serving_after}
-use Rattle.sw_history.specs.Entries.{last_pair, made_by}
 use Rattle.sw_history.specs.Held.{AtDesk}
-use Rattle.sw_history.specs.History.{pair_of, event, AsksInHistory}
+use Rattle.sw_history.specs.History.{event, AsksInHistory}
 use Rattle.sw_history.specs.Shares.{is_counted, one_if}
 use Rattle.sw_workers.specs.declared.pauses.Pause.{Pause}
 
@@ -138,14 +136,6 @@ pub record AnswersDesk (start : Panel) (ask : SessionAsk) (answer : SessionAnswe
   pub mid : AtDesk
   pub asks : AsksOnce start (AskSession ask) (SaysSession answer work) old mid
   pub adds : Adds start work mid new
-
--- The status that is read is the pair of the history at a place not before any that the desk's seat had seen.
-pub record ReadsStatus (start : Panel) (view : View) (old new : AtDesk) : Type 0 where
-  pub later : IsPrefix old.seat.seen new.seat.seen
-  pub pair : (view.byte, view.requests) ≡ last_pair (pair_of start) new.seat.seen
-  pub own : (d : ℕ) → old.seat.desk ≡ Some d → made_by d new.seat.seen ≡ old.seat.mine
-  pub desk : (new.seat.desk ≡ old.seat.desk) × (new.seat.mine ≡ old.seat.mine)
-  pub amount : new.amount ≡ old.amount
 
 -- a desk: what it counts and knows, and the session that it serves
 pub record DeskSeen : Type 0 where

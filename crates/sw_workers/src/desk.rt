@@ -13,16 +13,13 @@ ghost use Rattle.sw_workers.specs.declared.desk.Rest.TheVariants.{Deserted};
 
 use crate::gate::{Gate, Point};
 use crate::halves::Coming;
-use crate::leaving::await_served;
-use crate::limits::{Limit, slice_of};
 use crate::mainframe::Mainframe;
-use crate::room::Session;
-use crate::serving::Serving;
 use crate::shared::{Shared, Woken};
 use std::alloc::Global;
 use std::sync::{Arc, Wait};
 use std::time::Clock;
 use sw_card::{Meter, Relay};
+use sw_connections::{Limit, Serving, Session, await_served, slice_of};
 use sw_core::{Answer, Ask, SessionAnswer, SessionAsk, Sid, Work};
 use sw_history::{BySession, DeskPart, EventKind, FromOutside};
 use sw_session::{Desk, View, Wake};

@@ -4,10 +4,10 @@ ghost use Rattle.std.specs.Prelude.{◌≡◌, IfSome};
 ghost use Rattle.sw_core.specs.declared.ask.SessionAnswer.TheVariants.{Joined};
 
 use crate::mainframe::Mainframe;
-use crate::room::{Room, Session};
 use std::alloc::{AllocError, Global};
 use std::sync::Arc;
 use sw_base::SESSIONS;
+use sw_connections::{Room, Session};
 use sw_core::{SessionAnswer, Sid};
 use sw_session::Channel;
 

@@ -22,38 +22,26 @@
 #![tactic(auto)]
 
 mod closing;
-mod connection;
-mod connections;
 mod desk;
 mod gate;
 mod halves;
-mod keepalive;
-mod leaving;
-mod limits;
-mod line;
-mod lines;
 mod mainframe;
 mod opening_relays;
 mod pauses;
-mod reading;
-mod room;
-mod serving;
 mod session;
 mod shared;
-mod side;
 mod tried;
 mod work_channels;
 mod workers;
 
 pub use closing::{Closed, close_down};
-pub use connection::{Connection, Tcp, Wired};
 pub use desk::SharedDesk;
 pub use gate::{Gate, Open, Point};
-pub use line::Line;
 pub use mainframe::Mainframe;
 pub use pauses::Pause;
 pub use session::{Ended, run_session};
 pub use shared::{Opening, Shared};
+pub use sw_connections::{Connection, Line, Tcp, Wired};
 pub use sw_history::{AskKind, DeskPart, Held, Note, StatusBoard, StatusSeat};
 pub use work_channels::WorkReceivers;
 pub use workers::{run_card_worker, run_timer_worker};

@@ -1,13 +1,10 @@
 //! Which mainframe it is, to its threads.
 
-use crate::line::Hearing;
-use crate::side::Outbox;
 use crate::work_channels::{Carrier, Receiving};
 use std::marker::Brand;
-use sw_history::History;
+use sw_connections::Clients;
 
-/// Which mainframe it is: its history, what its sessions' threads leave to each other, the work that is sent and
-/// received, and its clients' lines.
-pub trait Mainframe: History + Outbox + Carrier + Receiving + Hearing {}
+/// Which mainframe it is: its history and its clients, and the work that is sent and received.
+pub trait Mainframe: Clients + Carrier + Receiving {}
 
 impl Mainframe for Brand {}

@@ -5,20 +5,19 @@ ghost use Rattle.std.specs.Io.KnownBytes.{Consumes, IsAtEnd, prepend_known};
 ghost use Rattle.sw_talk.specs.Talk.{turns};
 ghost use Rattle.sw_session.specs.ServeRead.{IsLedTo};
 ghost use Rattle.sw_session.specs.ServeEngine.{ServesChannel};
-ghost use Rattle.sw_workers.specs.Connected.{Waited, mishaps, connection_seen, beside, Fails};
+ghost use Rattle.sw_workers.specs.Connected.{mishaps, connection_seen, beside, Fails};
+ghost use Rattle.sw_connections.specs.Reads.{Waited};
 ghost use Rattle.sw_workers.specs.Connected.{ServesFromHeader, RunsSession};
 ghost use Rattle.sw_workers.specs.Work.{DeskPasses, desk_seen};
 
-use crate::connection::Connection;
 use crate::desk::SharedDesk;
 use crate::gate::Gate;
 use crate::mainframe::Mainframe;
-use crate::reading::{Reading, read_header};
-use crate::serving::Serving;
 use std::alloc::Global;
 use std::sync::{Arc, Wait};
 use std::time::Clock;
 use sw_card::{Meter, Relay};
+use sw_connections::{Connection, Reading, Serving, read_header};
 use sw_hislip::HEADER;
 use sw_session::{
     Beginning, ByteSource, Channel, Desk, ServeFault, Sink, TURNS, Unread, Unwritten, serve_channel,

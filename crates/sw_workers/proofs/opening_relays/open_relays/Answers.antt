@@ -1,11 +1,18 @@
-use Rattle.std.proofs.Common.{◌≡◌, ◌∙◌, ℕ, sym, ap, subst, arith}
+use Rattle.std.proofs.Common.{◌≡◌, ◌∙◌, ℕ, sym, ap, subst, arith, append-nil}
 use Rattle.sw_base.specs.Limits.{most_slots}
 use Rattle.sw_core.specs.Panel.{Panel}
 use Rattle.sw_history.specs.Held.{Locked}
 use Rattle.sw_history.specs.Opened.{IsOpened}
-use Rattle.sw_workers.proofs.AbortedLemmas.{IsGrown, ends_here, slots_more}
-use Rattle.sw_workers.proofs.OpenedLemmas.{IsSoFar, one_more, all_opened}
+use Rattle.sw_workers.proofs.AbortedLemmas.{IsGrown, ends_here, no_slots, slots_more}
+use Rattle.sw_workers.proofs.OpenedLemmas.{IsSoFar, none_yet, one_more, all_opened}
 use Rattle.sw_workers.proofs.opening_relays.open_relays.Goals as goal
+
+pub loop-before-init : goal.loop-before-init
+loop-before-init g c = record {
+  so_far = none_yet c.args.held.now.panel;
+  entries = no_slots c.args.held.now.panel c.args.held.now.history c.args.held.now.history (sym (append-nil c.args.held.now.history));
+  seen = λ none. absurd (omega (arith, none));
+}
 
 pub loop-before-preserved : goal.loop-before-preserved
 loop-before-preserved g c = record {

@@ -1,5 +1,5 @@
 use Rattle.std.proofs.Common.{ap}
-use Rattle.sw_workers.specs.Connected.{ReadingSeen}
+use Rattle.sw_connections.specs.Reads.{ReadingSeen}
 use Rattle.sw_workers.proofs.session.serve_from.Goals as goal
 
 pub returns-clause-serves : goal.returns-clause-serves

@@ -1,8 +1,8 @@
 //! The connections that are served.
 
 ghost use Rattle.std.specs.Prelude.{◌≡◌};
-ghost use Rattle.sw_workers.specs.Limits.{one_more};
-ghost use Rattle.sw_workers.specs.Leaving.{at_the_end};
+ghost use Rattle.sw_connections.specs.Limits.{one_more};
+ghost use Rattle.sw_connections.specs.Leaving.{at_the_end};
 
 use crate::line::Line;
 use std::alloc::{AllocError, Global};

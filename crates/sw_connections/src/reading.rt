@@ -3,11 +3,11 @@
 ghost use Rattle.std.specs.Prelude.{◌≡◌, ◌≤◌, ◌⊎◌, [], length, vec_capacity, OnOk, OnErr};
 ghost use Rattle.std.specs.Io.KnownBytes.{Consumes, IsAtEnd};
 ghost use Rattle.sw_session.specs.ServeRead.{IsLedTo};
-ghost use Rattle.sw_workers.specs.Connected.{Waited};
+ghost use Rattle.sw_connections.specs.Reads.{Waited};
 
+use crate::clients::Clients;
 use crate::connection::Connection;
 use crate::leaving::await_left;
-use crate::mainframe::Mainframe;
 use crate::serving::Serving;
 use std::marker::Model;
 use std::sync::Wait;
@@ -17,8 +17,8 @@ use sw_session::{ByteSource, Channel, Sink, Unread, Unwritten};
 
 /// Reads until a header is whole, or the input ends or fails. It repeats a read that a time limit ended, until the
 /// connection has been open for too long.
-#[tactic(auto, using(crate::proofs::ServingLemmas::waited_none, crate::proofs::ServingLemmas::waited_on))]
-pub fn read_header<H: Mainframe, R: ByteSource, W: Wait + Clock>(
+#[tactic(auto, using(crate::proofs::WaitedLemmas::waited_none, crate::proofs::WaitedLemmas::waited_on))]
+pub fn read_header<H: Clients, R: ByteSource, W: Wait + Clock>(
     rt: &W,
     serving: &Serving<H>,
     reader: &mut R,
@@ -55,7 +55,7 @@ pub fn read_header<H: Mainframe, R: ByteSource, W: Wait + Clock>(
 /// comes once what had come on the first connection is served. Contracts see the reader, and the second way to the
 /// client.
 #[derive(Drop)]
-pub struct Reading<'a, H: Mainframe, C: Connection, W: Wait + Clock + Drop> {
+pub struct Reading<'a, H: Clients, C: Connection, W: Wait + Clock + Drop> {
     pub reader: C::In,
     pub aside: C::Aside,
     pub serving: &'a Serving<H>,
@@ -69,10 +69,10 @@ pub struct Reading<'a, H: Mainframe, C: Connection, W: Wait + Clock + Drop> {
     pub has_failed: bool,
 }
 
-impl<'a, H: Mainframe, C: Connection, W: Wait + Clock + Drop> Model for Reading<'a, H, C, W> {
+impl<'a, H: Clients, C: Connection, W: Wait + Clock + Drop> Model for Reading<'a, H, C, W> {
     ghost use Rattle.std.specs.Prelude.{◌≡◌, true};
     ghost use Rattle.sw_session.specs.ServeRead.{IsLedTo};
-    ghost use Rattle.sw_workers.specs.Connected.{ReadingSeen};
+    ghost use Rattle.sw_connections.specs.Reads.{ReadingSeen};
 
     ghost Value = { ReadingSeen C.In C.Aside };
 
@@ -81,7 +81,7 @@ impl<'a, H: Mainframe, C: Connection, W: Wait + Clock + Drop> Model for Reading<
     ghost invariant = { λ s. s.has_failed ≡ true → IsLedTo C.In.failed s.reader };
 }
 
-impl<H: Mainframe, C: Connection, W: Wait + Clock + Drop> ByteSource for Reading<'_, H, C, W> {
+impl<H: Clients, C: Connection, W: Wait + Clock + Drop> ByteSource for Reading<'_, H, C, W> {
     ghost use Rattle.std.specs.Prelude.{◌⊎◌};
     ghost use Rattle.sw_session.specs.ServeRead.{IsLedTo};
 
@@ -114,7 +114,7 @@ impl<H: Mainframe, C: Connection, W: Wait + Clock + Drop> ByteSource for Reading
 }
 
 /// Whether the connection has a session, as which it has joined then.
-fn is_joined<H: Mainframe, C: Connection, W: Wait>(
+fn is_joined<H: Clients, C: Connection, W: Wait>(
     rt: &W,
     serving: &Serving<H>,
     reader: &C::In,
@@ -130,7 +130,7 @@ fn is_joined<H: Mainframe, C: Connection, W: Wait>(
 
 /// Ends a line that has been open for too long, and gives whether its session has both connections. Where it has, the
 /// reads of a first channel have no limit.
-fn is_paired<H: Mainframe, W: Wait + Clock>(
+fn is_paired<H: Clients, W: Wait + Clock>(
     rt: &W,
     serving: &Serving<H>,
     channel: Channel,
@@ -143,7 +143,7 @@ fn is_paired<H: Mainframe, W: Wait + Clock>(
 }
 
 /// Writes what the session's other thread left, if anything.
-fn forward<H: Mainframe, A: Sink, W: Wait>(
+fn forward<H: Clients, A: Sink, W: Wait>(
     rt: &W,
     serving: &Serving<H>,
     aside: &mut A,

@@ -2,10 +2,10 @@
 
 ghost use Rattle.std.specs.Prelude.{◌≡◌, true, OnErr};
 
+use crate::clients::Clients;
 use crate::connections::Connections;
 use crate::limits::{is_overdue, ms_between};
 use crate::line::Line;
-use crate::mainframe::Mainframe;
 use crate::room::{Room, Session};
 use crate::side::Refused;
 use std::alloc::Global;
@@ -14,7 +14,7 @@ use std::time::{Clock, Instant};
 
 /// What a thread serves: a connection, if it serves one, and its session, once that is known.
 #[derive(Drop)]
-struct Served<H: Mainframe> {
+struct Served<H: Clients> {
     line: Option<Line>,
     /// Which of the connections it is.
     ticket: Option<u64>,
@@ -27,13 +27,13 @@ struct Served<H: Mainframe> {
 
 /// What a thread serves, for its desk, and for what its channel's server reads from and writes to.
 #[derive(Drop)]
-pub struct Serving<H: Mainframe> {
+pub struct Serving<H: Clients> {
     alloc: Global,
     connections: Arc<Connections, Global>,
     served: Mutex<Served<H>>,
 }
 
-impl<H: Mainframe> Serving<H> {
+impl<H: Clients> Serving<H> {
     /// Nothing is served yet.
     pub fn new(alloc: Global, connections: Arc<Connections, Global>) -> Self {
         let served = Served {

@@ -1,6 +1,6 @@
 use Rattle.std.proofs.Common.{rules}
-use Rattle.sw_workers.proofs.ServingLemmas.{waited_on}
-use Rattle.sw_workers.proofs.reading.read_header.Goals as goal
+use Rattle.sw_connections.proofs.WaitedLemmas.{waited_on}
+use Rattle.sw_connections.proofs.reading.read_header.Goals as goal
 
 pub loop-preserved : goal.loop-preserved
 loop-preserved g c = (

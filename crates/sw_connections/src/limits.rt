@@ -2,7 +2,7 @@
 //! for how long a connection may be without its session.
 
 ghost use Rattle.std.specs.Prelude.{◌≡◌, ◌≤◌};
-ghost use Rattle.sw_workers.specs.Limits.{left_of, slice_of, time_for, is_spent, micros_between, ms_between};
+ghost use Rattle.sw_connections.specs.Limits.{left_of, slice_of, time_for, is_spent, micros_between, ms_between};
 
 use std::time::{Clock, Duration, Instant};
 

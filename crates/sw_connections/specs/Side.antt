@@ -1,7 +1,7 @@
 -- What the first thread of a session leaves to the second one.
 use Rattle.std.specs.Prelude.{◌≡◌, ◌+◌, ◌<◌, ℕ, nat_le, Bool, true, false, List, ◌++◌, length, Result, Ok, Err}
-use Rattle.sw_workers.specs.declared.side.Refused.{Refused}
-use Rattle.sw_workers.specs.declared.side.Refused.TheVariants.{Full, NoMemory}
+use Rattle.sw_connections.specs.declared.side.Refused.{Refused}
+use Rattle.sw_connections.specs.declared.side.Refused.TheVariants.{Full, NoMemory}
 
 -- the bytes that wait, and the memory that there is for them
 pub record Waiting : Type 0 where

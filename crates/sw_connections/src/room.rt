@@ -1,23 +1,23 @@
 //! A session, as the thread of one of its channels has it.
 
 ghost use Rattle.std.specs.Prelude.{◌≡◌, IfSome, OnErr};
-ghost use Rattle.sw_workers.specs.Work.{ReadsStatus};
+ghost use Rattle.sw_connections.specs.Reads.{ReadsStatus};
 
+use crate::clients::Clients;
 use crate::line::Line;
 use crate::lines::Lines;
-use crate::mainframe::Mainframe;
 use crate::side::{Refused, Side};
 use std::alloc::{AllocError, Global};
 use std::marker::Model;
-use std::sync::atomic::{AtomicBool, Ordering};
 use std::sync::{Arc, Mutex, Wait};
+use std::sync::atomic::{AtomicBool, Ordering};
 use sw_core::Sid;
 use sw_history::{DeskPart, SeatSlot, StatusBoard};
 use sw_session::{Channel, View};
 
 /// What the two threads of a session share, each part under a lock of its own. A later session has another one.
 #[derive(Drop)]
-pub struct Room<H: Mainframe> {
+pub struct Room<H: Clients> {
     alloc: Global,
     /// Whether a message is available.
     has_message: AtomicBool,
@@ -27,7 +27,7 @@ pub struct Room<H: Mainframe> {
     lines: Mutex<Lines>,
 }
 
-impl<H: Mainframe> Room<H> {
+impl<H: Clients> Room<H> {
     /// A room for a session that is to join.
     pub fn new(alloc: Global) -> Result<Arc<Self, Global>, AllocError> {
         let room = Room {
@@ -43,13 +43,13 @@ impl<H: Mainframe> Room<H> {
 
 /// A session: who it is, which of its channels has this, and what its threads share. Contracts see who it is.
 #[derive(Drop)]
-pub struct Session<H: Mainframe> {
+pub struct Session<H: Clients> {
     sid: Sid,
     channel: Channel,
     room: Arc<Room<H>, Global>,
 }
 
-impl<H: Mainframe> Model for Session<H> {
+impl<H: Clients> Model for Session<H> {
     ghost use Rattle.sw_core.specs.declared.ask.Sid.{Sid};
 
     ghost Value = { Sid };
@@ -57,7 +57,7 @@ impl<H: Mainframe> Model for Session<H> {
     ghost view = { λ s. s.sid };
 }
 
-impl<H: Mainframe> Session<H> {
+impl<H: Clients> Session<H> {
     /// A session that has joined, for its first channel.
     pub fn joined(sid: Sid, room: Arc<Room<H>, Global>) -> Self
         ensures { result ≡ sid }

@@ -1,7 +1,7 @@
 -- Bytes that are left to a session's second thread.
 use Rattle.std.proofs.Common.{ℕ, List, Result, Ok, Err, OnErr}
-use Rattle.sw_workers.specs.declared.side.Refused.{Refused}
-use Rattle.sw_workers.specs.Side.{Waiting, Leaves, Refuses}
+use Rattle.sw_connections.specs.declared.side.Refused.{Refused}
+use Rattle.sw_connections.specs.Side.{Waiting, Leaves, Refuses}
 
 -- they were refused for a cause
 pub refused-so : (old : Waiting) (bytes : List ℕ) (result : Result (Unit {0}) Refused) (new : Waiting) → Leaves old bytes result new

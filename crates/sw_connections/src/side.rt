@@ -1,11 +1,11 @@
 //! What the first thread of a session leaves to the second one, which says it on its connection.
 
 ghost use Rattle.std.specs.Prelude.{◌≡◌, [], IfSome, IfNone, OnErr};
-ghost use Rattle.sw_workers.specs.Side.{Leaves};
+ghost use Rattle.sw_connections.specs.Side.{Leaves};
 
+use std::mem;
 use std::alloc::Global;
 use std::marker::{Brand, Model};
-use std::mem;
 
 /// How many bytes wait at most for a session's second thread. A session with a client that doesn't read them is left.
 const SIDE_BYTES: usize = 65_536;
@@ -23,7 +23,7 @@ pub enum Refused {
 /// proves that they were refused.
 pub trait Outbox {
     ghost use Rattle.std.specs.Prelude.{OnErr};
-    ghost use Rattle.sw_workers.specs.Side.{Leaves};
+    ghost use Rattle.sw_connections.specs.Side.{Leaves};
 
     /// Bytes that were left to a session's second thread were refused.
     ghost refused: { Type 0 };
@@ -36,8 +36,8 @@ pub trait Outbox {
 
 impl Outbox for Brand {
     ghost use Rattle.std.specs.Prelude.{List, ℕ};
-    ghost use Rattle.sw_workers.specs.Side.{Waiting, Refuses};
-    ghost use Rattle.sw_workers.specs.declared.side.Refused.{Refused};
+    ghost use Rattle.sw_connections.specs.Side.{Waiting, Refuses};
+    ghost use Rattle.sw_connections.specs.declared.side.Refused.{Refused};
 
     ghost refused = { (waiting : Waiting) × (bytes : List ℕ) × (why : Refused) × Refuses waiting bytes why };
 
@@ -54,7 +54,7 @@ pub struct Side {
 
 impl Model for Side {
     ghost use Rattle.std.specs.Vec.{vec_capacity};
-    ghost use Rattle.sw_workers.specs.Side.{Waiting};
+    ghost use Rattle.sw_connections.specs.Side.{Waiting};
 
     ghost Value = { Waiting };
 

@@ -1,7 +1,7 @@
 use Rattle.std.proofs.Common.{◌≤◌, length, vec_capacity}
 use Rattle.std.specs.Io.KnownBytes.{Consumes}
-use Rattle.sw_workers.specs.Connected.{Waited}
-use Rattle.sw_workers.proofs.reading.read_header.Given as goal
+use Rattle.sw_connections.specs.Reads.{Waited}
+use Rattle.sw_connections.proofs.reading.read_header.Given as goal
 
 abbrev pub invariant-loop : goal.invariant-loop
 invariant-loop g l =

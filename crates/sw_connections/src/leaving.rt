@@ -1,13 +1,13 @@
 //! What the thread of a second connection waits for once that has ended: that what had come on the first one is served.
 
 ghost use Rattle.std.specs.Prelude.{◌≡◌};
-ghost use Rattle.sw_workers.specs.Leaving.{after_end};
+ghost use Rattle.sw_connections.specs.Leaving.{after_end};
 
-use crate::mainframe::Mainframe;
+use crate::clients::Clients;
 use crate::room::Session;
 use crate::serving::Serving;
-use std::sync::Wait;
 use std::thread;
+use std::sync::Wait;
 use std::time::{Clock, Duration};
 
 /// How long a thread rests between two looks at the first connection, in milliseconds.
@@ -47,7 +47,7 @@ fn after_end(has_ended: bool, unread_ms: u64, waited_ms: u64) -> AfterEnd
 
 /// Waits at the end of a second connection until the session has left, or is to be left. What had come on its first
 /// connection is served before that.
-pub fn await_left<H: Mainframe, W: Wait + Clock>(rt: &W, serving: &Serving<H>) {
+pub fn await_left<H: Clients, W: Wait + Clock>(rt: &W, serving: &Serving<H>) {
     let mut waited_ms = 0_u64;
     let mut unread_ms = 0_u64;
     for _ in rt.forever() {
@@ -74,7 +74,7 @@ const RELEASE_LOOKS: u32 = 1_000;
 
 /// Waits until what had come on the session's first connection is served, or waits for something else, and for a second
 /// at most. Two looks one after another have to find it so: bytes may have been taken right before one.
-pub fn await_served<H: Mainframe, W: Wait + Clock>(rt: &W, session: &Session<H>) {
+pub fn await_served<H: Clients, W: Wait + Clock>(rt: &W, session: &Session<H>) {
     let mut was_served = false;
     for _ in 0..RELEASE_LOOKS {
         let Some(first) = session.first_line(rt) else {

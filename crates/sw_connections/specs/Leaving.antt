@@ -3,10 +3,10 @@
 use Rattle.std.specs.Prelude.{ℕ, nat_lt, Bool, true, false, Option, None, Some, if◌then◌else◌}
 use Rattle.sw_channels.specs.declared.step.Channel.{Channel}
 use Rattle.sw_channels.specs.declared.step.Channel.TheVariants.{Synchronous, Asynchronous}
-use Rattle.sw_workers.specs.declared.connections.AtTheEnd.{AtTheEnd}
-use Rattle.sw_workers.specs.declared.connections.AtTheEnd.TheVariants as End
-use Rattle.sw_workers.specs.declared.leaving.AfterEnd.{AfterEnd}
-use Rattle.sw_workers.specs.declared.leaving.AfterEnd.TheVariants.{Leaves, Awaits, Stops}
+use Rattle.sw_connections.specs.declared.connections.AtTheEnd.{AtTheEnd}
+use Rattle.sw_connections.specs.declared.connections.AtTheEnd.TheVariants as End
+use Rattle.sw_connections.specs.declared.leaving.AfterEnd.{AfterEnd}
+use Rattle.sw_connections.specs.declared.leaving.AfterEnd.TheVariants.{Leaves, Awaits, Stops}
 
 -- for how many milliseconds the first connection may still bring what was on its way
 abbrev pub drain_time : ℕ

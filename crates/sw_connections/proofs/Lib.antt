@@ -1,0 +1,2 @@
+mod SideLemmas
+mod WaitedLemmas

@@ -1,0 +1,4 @@
+pub mod Limits
+pub mod Leaving
+pub mod Side
+pub mod Reads
