@@ -4,9 +4,9 @@ ghost use Rattle.std.specs.Prelude.{◌≡◌, ◌<◌, ◌≤◌, IfOk, drop, l
 ghost use Rattle.sw_channels.specs.EngineMessages.{room_of, part};
 ghost use Rattle.sw_channels.specs.InParts.{parts_of, GivesFirst};
 
-use std::mem;
 use std::alloc::{AllocError, Global};
 use std::marker::Model;
+use std::mem;
 use sw_base::Sequence;
 use sw_hislip::{Kind, LONGEST_PAYLOAD, Message};
 

@@ -1,5 +1,5 @@
 -- How many reads time limits have ended.
-use Rattle.std.proofs.Common.{◌≡◌, ℕ, ◌+◌, Option, None, Some, Result, Ok, Err, option_map, ◌∙◌, refl, ap, arith}
+use Rattle.std.proofs.Common.{ℕ, ◌+◌, Option, None, Some, Result, Ok, Err, option_map, ◌∙◌, refl, ap, arith}
 use Rattle.sw_session.specs.declared.source.Unread.{Unread}
 use Rattle.sw_session.specs.declared.source.Unread.TheVariants.{Paused, Failed}
 use Rattle.sw_session.specs.ServeRead.{CountsPause}

@@ -1,8 +1,8 @@
 //! What a session reads from and writes to.
 
 use crate::line::Line;
-use std::io;
 use std::alloc::Global;
+use std::io;
 use std::net::TcpStream;
 use sw_session::{ByteSource, Sink};
 

@@ -1,7 +1,7 @@
 //! Clients that are gone without a word, as by a cut cable.
 
 use libc::net::{
-    IPPROTO_TCP, SOL_SOCKET, SO_KEEPALIVE, TCP_KEEPCNT, TCP_KEEPIDLE, TCP_KEEPINTVL, setsockopt,
+    IPPROTO_TCP, SO_KEEPALIVE, SOL_SOCKET, TCP_KEEPCNT, TCP_KEEPIDLE, TCP_KEEPINTVL, setsockopt,
 };
 use std::os::fd::RawFd;
 

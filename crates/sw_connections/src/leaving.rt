@@ -6,8 +6,8 @@ ghost use Rattle.sw_connections.specs.Leaving.{after_end};
 use crate::clients::Clients;
 use crate::room::Session;
 use crate::serving::Serving;
-use std::thread;
 use std::sync::Wait;
+use std::thread;
 use std::time::{Clock, Duration};
 
 /// How long a thread rests between two looks at the first connection, in milliseconds.

@@ -130,11 +130,7 @@ fn is_joined<H: Clients, C: Connection, W: Wait>(
 
 /// Ends a line that has been open for too long, and gives whether its session has both connections. Where it has, the
 /// reads of a first channel have no limit.
-fn is_paired<H: Clients, W: Wait + Clock>(
-    rt: &W,
-    serving: &Serving<H>,
-    channel: Channel,
-) -> bool {
+fn is_paired<H: Clients, W: Wait + Clock>(rt: &W, serving: &Serving<H>, channel: Channel) -> bool {
     let is_paired = serving.end_overdue(rt, true);
     if is_paired && channel == Channel::Synchronous {
         serving.listen_long(rt);

@@ -9,8 +9,8 @@ use crate::lines::Lines;
 use crate::side::{Refused, Side};
 use std::alloc::{AllocError, Global};
 use std::marker::Model;
-use std::sync::{Arc, Mutex, Wait};
 use std::sync::atomic::{AtomicBool, Ordering};
+use std::sync::{Arc, Mutex, Wait};
 use sw_core::Sid;
 use sw_history::{DeskPart, SeatSlot, StatusBoard};
 use sw_session::{Channel, View};
@@ -149,8 +149,9 @@ impl<H: Clients> Session<H> {
         self.room.lines.lock(rt).first()
     }
 
-    /// The session has left, and its lines end.
+    /// The session has left: its lines end, and what was left to its second thread is let go.
     pub fn end<W: Wait>(&self, rt: &W) {
         self.room.lines.lock(rt).end();
+        drop(self.take_side(rt));
     }
 }

@@ -3,9 +3,9 @@
 ghost use Rattle.std.specs.Prelude.{◌≡◌, [], IfSome, IfNone, OnErr};
 ghost use Rattle.sw_connections.specs.Side.{Leaves};
 
-use std::mem;
 use std::alloc::Global;
 use std::marker::{Brand, Model};
+use std::mem;
 
 /// How many bytes wait at most for a session's second thread. A session with a client that doesn't read them is left.
 const SIDE_BYTES: usize = 65_536;

@@ -11,3 +11,4 @@ pub mod Laws
 pub mod Waking
 pub mod Asks
 pub mod Joined
+pub mod Coming

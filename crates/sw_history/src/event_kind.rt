@@ -1,6 +1,7 @@
 //! The two kinds of events: those for which a session asks, and those from outside. One step under the lock serves
 //! both.
 
+use crate::coming::Coming;
 use crate::note::AskKind;
 use crate::waking::{Concern, may_end};
 use std::alloc::Global;
@@ -14,6 +15,7 @@ pub trait EventKind<R: Relay, M: Meter> {
     ghost use Rattle.sw_core.specs.Step.{Step};
     ghost use Rattle.sw_core.specs.Seen.{AskSeen, AnswerSeen, failed_in, IsOwnAccount};
     ghost use Rattle.sw_history.specs.Closing.{is_unasked};
+    ghost use Rattle.sw_history.specs.Coming.{coming_of};
     ghost use Rattle.sw_history.specs.Kinds.{ask_kind};
     ghost use Rattle.sw_history.specs.Said.{session_told};
     ghost use Rattle.sw_history.specs.Shares.{is_event};
@@ -61,6 +63,10 @@ pub trait EventKind<R: Relay, M: Meter> {
     /// The causes of a hold that the ask may end.
     fn concern(ask: &Self::Ask) -> Concern
         ensures { result ≡ concern_of (asked ask.now) };
+
+    /// Which session it is to bring or to take away.
+    fn coming(ask: &Self::Ask) -> Coming
+        ensures { result ≡ coming_of (asked ask.now) };
 
     /// Whether no session asks it.
     fn is_unasked(ask: &Self::Ask) -> bool
@@ -153,6 +159,16 @@ impl<R: Relay, M: Meter> EventKind<R, M> for BySession {
         }
     }
 
+    #[inline(always)]
+    fn coming(ask: &SessionAsk) -> Coming {
+        match ask {
+            SessionAsk::Join => Coming::Joins,
+            SessionAsk::Attach(_) => Coming::Attaches,
+            SessionAsk::Leave(sid) => Coming::Leaves(*sid),
+            _ => Coming::Nobody,
+        }
+    }
+
     fn is_unasked(_ask: &SessionAsk) -> bool {
         false
     }
@@ -229,6 +245,13 @@ impl<R: Relay, M: Meter> EventKind<R, M> for FromOutside {
             Ask::Install(_, _) => Concern::Nobody,
             Ask::Eject(_) | Ask::External => Concern::Scan,
             Ask::Elapsed(_) | Ask::Finished(_) => Concern::Scan,
+        }
+    }
+
+    fn coming(ask: &Ask<R, M>) -> Coming {
+        match ask {
+            Ask::Session(ask) => <BySession as EventKind<R, M>>::coming(ask),
+            _ => Coming::Nobody,
         }
     }
 

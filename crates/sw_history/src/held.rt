@@ -134,12 +134,7 @@ impl<H: History> DeskPart<H> {
 
     /// Reads the board: not earlier than any that this desk had seen, nor than what the seat in this slot had seen. It
     /// takes the lock of the slot alone.
-    pub fn poll<W: Wait>(
-        &mut self,
-        rt: &W,
-        board: &StatusBoard<H>,
-        slot: &SeatSlot<H>,
-    ) -> (u8, u64)
+    pub fn poll<W: Wait>(&mut self, rt: &W, board: &StatusBoard<H>, slot: &SeatSlot<H>) -> (u8, u64)
         ensures later { IsPrefix self.old.seat.seen self.new.seat.seen }
         ensures pair { result ≡ last_pair (pair_of H.first) self.new.seat.seen }
         ensures own { (d : ℕ) → self.old.seat.desk ≡ Some d → made_by d self.new.seat.seen ≡ self.old.seat.mine }
@@ -343,6 +338,8 @@ impl<H: History, R: Relay, M: Meter> Held<H, R, M> {
     )
         requires { E.is_blank left.old }
         ensures once { AsksOnce H.first (E.asked ask) (E.answered answer.new left.new) part.old part.new }
+        ensures step { let said = E.answered answer.new left.new in Step self.old.panel (E.asked ask)
+            (failed_in (E.asked ask) said self.old.panel.cage.cards self.new.panel.cage.cards) said self.new.panel }
         ensures waits { self.new.turn ≡ self.old.turn → HoldsOn self.old.panel self.new.panel }
     {
         whoever_may_go_on_is_woken();

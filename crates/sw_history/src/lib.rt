@@ -16,6 +16,7 @@
 #![tactic(auto)]
 
 mod board;
+mod coming;
 mod event_kind;
 mod held;
 mod laws;
@@ -27,6 +28,7 @@ mod telling;
 mod waking;
 
 pub use board::{BlankBoard, BoardName, StatusBoard};
+pub use coming::Coming;
 pub use event_kind::{BySession, EventKind, FromOutside};
 pub use held::{DeskPart, Held, History, Lasting};
 pub use laws::{

@@ -28,7 +28,7 @@ pub use source::{ByteSource, Memory, Unread};
 pub use sw_channels::{Channel, Engine, Sent, Step, parts_are_one_message};
 pub use sw_talk::{
     Available, CoreDesk, Desk, Mark, TURNS, Talker, View, Wake, core_desk_runs,
-    core_rest_is_determined, core_talk_is_determined, note_leaves_others,
-    talk_is_determined, work_is_done_in_order, work_is_kept_where_there_is_room,
+    core_rest_is_determined, core_talk_is_determined, note_leaves_others, talk_is_determined,
+    work_is_done_in_order, work_is_kept_where_there_is_room,
 };
 pub use writing::{Sink, Unwritten, write_all};

@@ -6,3 +6,4 @@ mod AbortedLemmas
 mod AskedLemmas
 mod ServingLemmas
 mod WaitedLemmas
+mod HalvesLemmas

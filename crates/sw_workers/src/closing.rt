@@ -7,19 +7,20 @@ ghost use Rattle.sw_base.specs.Limits.{most_slots};
 ghost use Rattle.sw_cage.specs.Accounts.{option_account, accounts_of, all_open};
 ghost use Rattle.sw_core.specs.Good.{IsGoodPanel};
 ghost use Rattle.sw_history.specs.Closing.{IsOpen, IsClosedDown};
+ghost use Rattle.sw_workers.specs.Halves.{StayJoined};
 
 use crate::desk::SharedDesk;
 use crate::gate::Gate;
 use crate::mainframe::Mainframe;
 use crate::shared::Shared;
 use std::alloc::Global;
-use std::sync::{Arc, Wait};
 use std::sync::ledger::Share;
+use std::sync::{Arc, Wait};
 use std::time::Clock;
 use sw_base::SLOTS;
 use sw_card::{Card, Meter, Relay};
 use sw_core::{Answer, Ask, runs_go_on};
-use sw_history::{DeskPart, Held};
+use sw_history::{DeskPart, Held, sessions_stay};
 
 /// A mainframe that was closed down.
 #[derive(Drop)]
@@ -61,14 +62,43 @@ pub fn close_down<H: Mainframe, R: Relay, M: Meter, G: Gate + Drop, W: Wait + Cl
     }
 }
 
+/// Closes a mainframe down under its lock, where all is at rest and every desk is given back. Else it gives them back.
+pub fn close_held<H: Mainframe, R: Relay, M: Meter, G: Gate + Drop, W: Wait + Clock + Copy + Drop>(
+    held: &mut Held<H, R, M>,
+    desks: Vec<SharedDesk<H, R, M, G, W>>,
+    room: Vec<Option<Card<R, M>>>,
+) -> Result<Closed<R, M>, Vec<SharedDesk<H, R, M, G, W>>>
+    requires room { (room.items ≡ []) × (most_slots ≤ vec_capacity room) }
+    ensures events { IfOk result (λ closed.
+        closed.events ≡ H.first.events + sum_by (λ desk. desk.part.amount) desks.items) }
+    ensures cards { IfOk result (λ closed.
+        IsClosedDown H.first closed.events (accounts_of closed.cards.items)) }
+    ensures back { IfErr result (λ back. back.items ≡ desks.items) }
+    ensures joined { StayJoined held.old.panel held.new.panel }
+{
+    if !held.is_at_rest() {
+        return Err(desks);
+    }
+    let Some(spare) = held.take_spare(desks.len() as u64) else {
+        return Err(desks);
+    };
+    held.has_history();
+    let mut all = gather(spare, desks);
+    let events = held.number(&mut all);
+    let mut part = held.last_part(all.split_off(1, 0));
+    let cards = take_cards(held, &mut part, room);
+    Ok(Closed { events, cards })
+}
+
 /// Takes the cards out of their slots, with nothing closed. Where a slot gives none, there is none at its place.
-pub fn take_cards<H: Mainframe, R: Relay, M: Meter>(
+fn take_cards<H: Mainframe, R: Relay, M: Meter>(
     held: &mut Held<H, R, M>,
     part: &mut DeskPart<H>,
     room: Vec<Option<Card<R, M>>>,
 ) -> Vec<Option<Card<R, M>>>
     requires room { (room.items ≡ []) × (most_slots ≤ vec_capacity room) }
-    ensures { accounts_of result.items ≡ all_open held.old.panel.cage.cards }
+    ensures cards { accounts_of result.items ≡ all_open held.old.panel.cage.cards }
+    ensures joined { StayJoined held.old.panel held.new.panel }
 {
     let mut cards = room;
     runs_go_on();
@@ -100,8 +130,10 @@ fn take_out<H: Mainframe, R: Relay, M: Meter>(
     ensures card { option_account result ≡ slot_at (all_open held.old.panel.cage.cards) slot }
     ensures others { all_open held.new.panel.cage.cards
         ≡ slice_set (all_open held.old.panel.cage.cards) (slot - 1) None }
+    ensures joined { StayJoined held.old.panel held.new.panel }
 {
     runs_go_on();
+    sessions_stay();
     held.has_history();
     match held.ask(part, Ask::Eject(slot)) {
         Answer::Ejected(card) => Some(card),
@@ -113,7 +145,7 @@ fn take_out<H: Mainframe, R: Relay, M: Meter>(
 }
 
 /// All shares in one.
-pub fn gather<H: Mainframe, R: Relay, M: Meter, G: Gate + Drop, W: Wait + Clock + Copy + Drop>(
+fn gather<H: Mainframe, R: Relay, M: Meter, G: Gate + Drop, W: Wait + Clock + Copy + Drop>(
     spare: Share<H>,
     mut desks: Vec<SharedDesk<H, R, M, G, W>>,
 ) -> Share<H>

@@ -12,16 +12,15 @@ ghost use Rattle.sw_workers.specs.Work.{none_own};
 ghost use Rattle.sw_workers.specs.declared.desk.Rest.TheVariants.{Deserted};
 
 use crate::gate::{Gate, Point};
-use crate::halves::Coming;
 use crate::mainframe::Mainframe;
 use crate::shared::{Shared, Woken};
 use std::alloc::Global;
 use std::sync::{Arc, Wait};
 use std::time::Clock;
 use sw_card::{Meter, Relay};
-use sw_connections::{Limit, Serving, Session, await_served, slice_of};
+use sw_connections::{Limit, Room, Serving, Session, await_served, slice_of};
 use sw_core::{Answer, Ask, SessionAnswer, SessionAsk, Sid, Work};
-use sw_history::{BySession, DeskPart, EventKind, FromOutside};
+use sw_history::{BySession, Coming, DeskPart, EventKind, FromOutside};
 use sw_session::{Desk, View, Wake};
 
 /// The desk of a session or of a worker, which one thread has.
@@ -205,7 +204,7 @@ impl<H: Mainframe, R: Relay, M: Meter, G: Gate + Drop, W: Wait + Clock + Copy + 
         ensures { Brings H.first (ask_seen ask) self.old.part (work_seen result) self.new.part }
     {
         let mut answer = Answer::Missed;
-        self.act::<FromOutside>(Coming::Nobody, ask, &mut answer, &mut ());
+        self.act::<FromOutside>(None, ask, &mut answer, &mut ());
         let told = answer;
         match told {
             Answer::Taken(work) => work,
@@ -216,12 +215,12 @@ impl<H: Mainframe, R: Relay, M: Meter, G: Gate + Drop, W: Wait + Clock + Copy + 
         }
     }
 
-    /// Makes an ask of any kind, which is to bring such a session, or to take it away. It leaves the answer in `answer`,
-    /// and what comes beside it in `left`.
+    /// Makes an ask of any kind. The threads of a session that it joins share this room. It leaves the answer in
+    /// `answer`, and what comes beside it in `left`.
     #[inline(always)]
     fn act<E: EventKind<R, M>>(
         &mut self,
-        coming: Coming<H>,
+        room: Option<Arc<Room<H>, Global>>,
         ask: E::Ask,
         answer: &mut E::Answer,
         left: &mut E::Left,
@@ -230,10 +229,10 @@ impl<H: Mainframe, R: Relay, M: Meter, G: Gate + Drop, W: Wait + Clock + Copy + 
         ensures { AsksOnce H.first (E.asked ask) (E.answered answer.new left.new)
             self.old.part self.new.part }
     {
-        let leaves = self.is_left_by(&coming);
+        let leaves = self.is_left_by(E::coming(&ask));
         let (turn, session) = self
             .shared
-            .act::<E, W>(&self.rt, &mut self.part, coming, ask, answer, left);
+            .act::<E, W>(&self.rt, &mut self.part, room, ask, answer, left);
         self.seen = turn;
         if let Some(session) = session {
             self.serving.learn(&self.rt, &session);
@@ -263,22 +262,20 @@ impl<H: Mainframe, R: Relay, M: Meter, G: Gate + Drop, W: Wait + Clock + Copy + 
         }
     }
 
-    /// Which session this ask is to bring, or to take away.
+    /// The room of the session that this ask is to join, if it is to join one and there is memory.
     #[inline(always)]
-    fn coming(&self, ask: &SessionAsk) -> Coming<H> {
+    fn room_for(&self, ask: &SessionAsk) -> Option<Arc<Room<H>, Global>> {
         match ask {
-            SessionAsk::Join => Coming::Joins(self.serving.room(&self.rt)),
-            SessionAsk::Attach(_) => Coming::Attaches,
-            SessionAsk::Leave(sid) => Coming::Leaves(*sid),
-            _ => Coming::Nobody,
+            SessionAsk::Join => self.serving.room(&self.rt),
+            _ => None,
         }
     }
 
     /// Whether the session that this desk joined or attached to is to leave.
     #[inline(always)]
-    fn is_left_by(&self, coming: &Coming<H>) -> bool {
+    fn is_left_by(&self, coming: Coming) -> bool {
         match (coming, &self.session) {
-            (Coming::Leaves(sid), Some(session)) => *sid == session.sid(),
+            (Coming::Leaves(sid), Some(session)) => sid == session.sid(),
             _ => false,
         }
     }
@@ -389,11 +386,11 @@ impl<H: Mainframe, R: Relay, M: Meter, G: Gate + Drop, W: Wait + Clock + Copy + 
     fn ask_into(&mut self, ask: SessionAsk, answer: &mut SessionAnswer) {
         self.shared.gate().pass(&self.rt, Point::Ask);
         self.await_turn(&ask);
-        let coming = self.coming(&ask);
+        let room = self.room_for(&ask);
         let serves = self.serves;
         let leaves = is_leave(&ask);
         let mut work = None;
-        self.act::<BySession>(coming, ask, answer, &mut work);
+        self.act::<BySession>(room, ask, answer, &mut work);
         self.carry(work);
         self.limit = limit_after(self.limit, answer);
         self.serves = serving_after(serves, leaves, answer);

@@ -1,38 +1,39 @@
 //! The sessions that lack their second channel, for whoever attaches to them.
 
-ghost use Rattle.std.specs.Prelude.{◌≡◌, IfSome};
-ghost use Rattle.sw_core.specs.declared.ask.SessionAnswer.TheVariants.{Joined};
+ghost use Rattle.std.specs.Prelude.{◌≡◌, ◌-◌, ◌<◌, length, IfOk, IfSome, IfNone, None, Some, replicate};
+ghost use Rattle.sw_base.specs.Limits.{most_sessions};
+ghost use Rattle.sw_base.specs.Layout.{slot_at};
+ghost use Rattle.sw_workers.specs.Halves.{Begins, Takes, Follows};
 
 use crate::mainframe::Mainframe;
 use std::alloc::{AllocError, Global};
+use std::marker::Model;
 use std::sync::Arc;
 use sw_base::SESSIONS;
 use sw_connections::{Room, Session};
-use sw_core::{SessionAnswer, Sid};
+use sw_core::Sid;
+use sw_history::Coming;
 use sw_session::Channel;
 
-/// Which session an ask is to bring to its desk, or to take away.
-#[derive(Drop)]
-pub enum Coming<H: Mainframe> {
-    /// A new one, whose threads are to share this room. Without a room they share nothing.
-    Joins(Option<Arc<Room<H>, Global>>),
-    /// One that lacks its second channel.
-    Attaches,
-    /// This one leaves.
-    Leaves(Sid),
-    /// None.
-    Nobody,
-}
-
-/// By number, of each session that lacks its second channel what that channel is to have.
+/// By number, of each session that lacks its second channel what that channel is to have. Contracts see whose it is.
 #[derive(Drop)]
 pub struct Halves<H: Mainframe> {
     rows: Vec<Option<Session<H>>>,
 }
 
+impl<H: Mainframe> Model for Halves<H> {
+    ghost use Rattle.sw_workers.specs.Halves.{Rows};
+
+    ghost Value = { Rows };
+
+    ghost view = { λ h. h.rows.items };
+}
+
 impl<H: Mainframe> Halves<H> {
     /// No session has joined.
-    pub fn new(alloc: Global) -> Result<Self, AllocError> {
+    pub fn new(alloc: Global) -> Result<Self, AllocError>
+        ensures { IfOk result (λ halves. halves ≡ replicate most_sessions None) }
+    {
         let mut rows = Vec::new(alloc);
         for _ in 0..SESSIONS {
             rows.push(None)?;
@@ -40,47 +41,61 @@ impl<H: Mainframe> Halves<H> {
         Ok(Halves { rows })
     }
 
-    fn row(&mut self, number: u8) -> Option<&mut Option<Session<H>>> {
-        self.rows.get_mut((number as usize).wrapping_sub(1))
+    /// The place of a session's number. None where there is no such session.
+    fn place(&self, number: u8) -> Option<usize>
+        ensures some { IfSome result (λ place. (0 < number) × (place ≡ number - 1) × (place < length self.now)) }
+        ensures none { IfNone result (slot_at self.now number ≡ None) }
+    {
+        let place = number.checked_sub(1)? as usize;
+        if place < self.rows.len() {
+            Some(place)
+        } else {
+            None
+        }
     }
 
-    /// Follows an ask by its answer, and gives the session that the desk has then, if the ask brought it one.
-    pub fn follow(&mut self, coming: Coming<H>, answer: &SessionAnswer) -> Option<Session<H>>
-        ensures { IfSome result (λ session. answer.now ≡ Joined session) }
+    /// Follows an ask by which a session comes or goes, and the session that it joined. It gives the session that the
+    /// desk has then, if the ask brought it one. The threads of a new one share this room, if there is one.
+    pub fn follow(
+        &mut self,
+        coming: Coming,
+        joined: Option<Sid>,
+        room: Option<Arc<Room<H>, Global>>,
+    ) -> Option<Session<H>>
+        ensures follows { Follows self.old coming joined self.new }
+        ensures session { IfSome result (λ session. joined ≡ Some session) }
     {
-        match (coming, answer) {
-            (Coming::Joins(Some(room)), SessionAnswer::Joined(sid)) => {
-                Some(self.begin(Session::joined(*sid, room)))
-            }
-            (Coming::Attaches, SessionAnswer::Joined(sid)) => self.take(*sid),
+        match (coming, joined) {
+            (Coming::Joins, Some(sid)) => self.begin(sid, room),
+            (Coming::Attaches, Some(sid)) => self.take(sid),
             (Coming::Leaves(sid), _) => {
                 drop(self.take(sid));
                 None
             }
-            (coming, _) => {
-                drop(coming);
-                None
-            }
+            _ => None,
         }
     }
 
     /// A session has joined: its other half waits here.
-    fn begin(&mut self, session: Session<H>) -> Session<H>
-        ensures { result ≡ session }
+    fn begin(&mut self, sid: Sid, room: Option<Arc<Room<H>, Global>>) -> Option<Session<H>>
+        ensures begins { Begins self.old sid self.new }
+        ensures session { IfSome result (λ session. session ≡ sid) }
     {
-        if let Some(row) = self.row(session.sid().number) {
-            *row = session.shared_as(Channel::Asynchronous);
+        let session = Session::joined(sid, room?);
+        if let Some(place) = self.place(sid.number) {
+            self.rows[place] = session.shared_as(Channel::Asynchronous);
         }
-        session
+        Some(session)
     }
 
     /// Takes the half of this session, if it waits here.
     fn take(&mut self, sid: Sid) -> Option<Session<H>>
-        ensures { IfSome result (λ session. session ≡ sid) }
+        ensures takes { Takes self.old sid self.new }
+        ensures session { IfSome result (λ session. session ≡ sid) }
     {
-        let row = self.row(sid.number)?;
-        match row {
-            Some(half) if half.sid() == sid => row.take(),
+        let place = self.place(sid.number)?;
+        match &self.rows[place] {
+            Some(half) if half.sid() == sid => self.rows[place].take(),
             _ => None,
         }
     }

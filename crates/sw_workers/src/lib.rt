@@ -21,6 +21,7 @@
 //! No contract says when or whether a thread continues, nor how late a status is that a seat reads.
 #![tactic(auto)]
 
+mod behind_lock;
 mod closing;
 mod desk;
 mod gate;

@@ -4,12 +4,13 @@ ghost use Rattle.std.specs.Prelude.{◌≡◌, ◌≤◌};
 ghost use Rattle.sw_base.specs.Limits.{most_slots};
 ghost use Rattle.sw_history.specs.History.{IsHistory};
 ghost use Rattle.sw_history.specs.Opened.{AddsSlot, Reopens, IsOpened};
+ghost use Rattle.sw_workers.specs.Halves.{StayJoined};
 
 use crate::mainframe::Mainframe;
 use sw_base::SLOTS;
 use sw_card::{Meter, Relay};
 use sw_core::{Answer, Ask, runs_go_on};
-use sw_history::{DeskPart, Held};
+use sw_history::{DeskPart, Held, sessions_stay};
 
 /// Ends the scan that runs and opens every relay: each card comes out of its slot with its relays open, and goes back.
 pub fn open_relays<H: Mainframe, R: Relay, M: Meter>(
@@ -18,6 +19,7 @@ pub fn open_relays<H: Mainframe, R: Relay, M: Meter>(
 )
     ensures opened { IsOpened held.old.panel held.new.panel }
     ensures seen { IsHistory H.first part.new.seat.seen held.new.panel }
+    ensures joined { StayJoined held.old.panel held.new.panel }
 {
     runs_go_on();
     held.has_history();
@@ -39,8 +41,10 @@ fn open_slot<H: Mainframe, R: Relay, M: Meter>(
     ensures reopens { Reopens held.old.panel slot held.new.panel }
     ensures entries { AddsSlot held.old.panel held.old.history slot held.new.panel held.new.history }
     ensures seen { part.new.seat.seen ≡ held.new.history }
+    ensures joined { StayJoined held.old.panel held.new.panel }
 {
     runs_go_on();
+    sessions_stay();
     held.has_history();
     match held.ask(part, Ask::Eject(slot)) {
         Answer::Ejected(card) => drop(held.ask(part, Ask::Install(slot, card))),

@@ -216,13 +216,7 @@ fn serve_parts<H: Mainframe, C: Connection, D: Desk + Drop, W: Wait + Clock + Co
 }
 
 /// Serves a channel from what was heard on, with a writer and a side writer.
-fn serve_from<
-    H: Mainframe,
-    C: Connection,
-    S: Sink + Drop,
-    D: Desk + Drop,
-    W: Wait + Clock + Drop,
->(
+fn serve_from<H: Mainframe, C: Connection, S: Sink + Drop, D: Desk + Drop, W: Wait + Clock + Drop>(
     alloc: Global,
     beginning: Beginning,
     source: Reading<'_, H, C, W>,

@@ -1,35 +1,37 @@
 //! The mainframe behind one lock, and what wakes the threads that wait for it.
 
-ghost use Rattle.std.specs.Prelude.{◌≡◌, ◌+◌, ◌≤◌, [], IfErr, IfOk, IfSome, IfNone, None, sum_by};
+ghost use Rattle.std.specs.Prelude.{◌≡◌, ◌+◌, ◌≤◌, [], IfErr, IfOk, IfSome, IfNone, None, Some, sum_by, replicate};
 ghost use Rattle.std.specs.Vec.{vec_capacity};
-ghost use Rattle.sw_base.specs.Limits.{most_slots};
+ghost use Rattle.sw_base.specs.Limits.{most_sessions, most_slots};
 ghost use Rattle.sw_cage.specs.Accounts.{accounts_of};
 ghost use Rattle.sw_core.specs.Opening.{IsFresh};
 ghost use Rattle.sw_talk.specs.CoreDesk.{piece_seen};
 ghost use Rattle.sw_history.specs.Closing.{IsClosedDown};
 ghost use Rattle.sw_history.specs.History.{pair_of};
 ghost use Rattle.sw_history.specs.Opened.{OpensAll};
+ghost use Rattle.sw_core.specs.declared.ask.SessionAnswer.TheVariants.{Joined};
+ghost use Rattle.sw_history.specs.Said.{session_told};
 ghost use Rattle.sw_history.specs.Shares.{all_parts};
 ghost use Rattle.sw_workers.specs.Waits.{outcome_of};
 ghost use Rattle.sw_history.specs.Asks.{AsksOnce};
 ghost use Rattle.sw_connections.specs.Reads.{ReadsStatus};
 ghost use Rattle.sw_workers.specs.declared.shared.Woken.TheVariants.{Closing};
 
-use crate::closing::{Closed, gather, take_cards};
+use crate::behind_lock::BehindLock;
+use crate::closing::{Closed, close_held};
 use crate::desk::SharedDesk;
 use crate::gate::Gate;
-use crate::halves::{Coming, Halves};
+use crate::halves::Halves;
 use crate::mainframe::Mainframe;
-use crate::opening_relays::open_relays;
 use crate::tried::lock_soon;
 use crate::work_channels::{WorkReceivers, WorkSenders, work_posts};
 use crossbeam_utils::CachePadded;
 use std::alloc::{AllocError, Global};
-use std::sync::{Arc, Condvar, Mutex, Wait};
 use std::sync::ledger::Blank;
+use std::sync::{Arc, Condvar, Mutex, Wait};
 use std::time::{Clock, Duration};
 use sw_card::{Card, Meter, Relay};
-use sw_connections::{Connections, Serving, Session};
+use sw_connections::{Connections, Room, Serving, Session};
 use sw_core::{Core, Work, runs_go_on};
 use sw_history::{BlankBoard, DeskPart, EventKind, Held, Note, Recorded, StatusBoard};
 use sw_session::View;
@@ -96,7 +98,9 @@ struct Rooms<H: Mainframe, M: Meter> {
 }
 
 impl<H: Mainframe, M: Meter> Rooms<H, M> {
-    fn new(alloc: Global) -> Result<Self, AllocError> {
+    fn new(alloc: Global) -> Result<Self, AllocError>
+        ensures { IfOk result (λ rooms. rooms.halves ≡ replicate most_sessions None) }
+    {
         let halves = Halves::new(alloc)?;
         let connections = Arc::new(alloc, Connections::new(alloc)?)?;
         let (senders, receivers) = work_posts(alloc)?;
@@ -107,13 +111,6 @@ impl<H: Mainframe, M: Meter> Rooms<H, M> {
             receivers,
         })
     }
-}
-
-/// What is behind the lock: the mainframe, and which sessions lack their second channel.
-#[derive(Drop)]
-struct Locked<H: Mainframe, R: Relay, M: Meter> {
-    held: Held<H, R, M>,
-    halves: Halves<H>,
 }
 
 /// What a new mainframe keeps behind its lock, and the status board that it publishes to.
@@ -152,30 +149,11 @@ fn shared_twice<H: Mainframe>(
     Ok((copy, board))
 }
 
-/// Follows an ask of any kind by its answer, and gives the session that it brings the desk, if any.
-#[inline(always)]
-fn followed<H: Mainframe, R: Relay, M: Meter, E: EventKind<R, M>>(
-    halves: &mut Halves<H>,
-    coming: Coming<H>,
-    answer: &E::Answer,
-) -> Option<Session<H>> {
-    if let Coming::Nobody = coming {
-        return None;
-    }
-    match E::session_answer(answer) {
-        Some(answer) => halves.follow(coming, answer),
-        None => {
-            drop(coming);
-            None
-        }
-    }
-}
-
 /// What all threads share.
 #[derive(Drop)]
 pub struct Shared<H: Mainframe, R: Relay, M: Meter, G: Gate + Drop> {
     /// On cache lines of its own: what is beside it is read by threads that don't have the lock.
-    locked: CachePadded<Mutex<Locked<H, R, M>>>,
+    locked: CachePadded<Mutex<BehindLock<H, R, M>>>,
     /// Wakes the threads that wait: something happened that may admit a held ask.
     happened: Condvar,
     board: Arc<StatusBoard<H>, Global>,
@@ -214,7 +192,7 @@ impl<H: Mainframe, R: Relay, M: Meter, G: Gate + Drop> Shared<H, R, M, G> {
             receivers,
         } = rooms;
         let shared = Shared {
-            locked: CachePadded::new(Mutex::new(Locked { held, halves })),
+            locked: CachePadded::new(Mutex::new(BehindLock::new(held, halves))),
             happened: Condvar::new(),
             board,
             senders: Mutex::new(Some(senders)),
@@ -240,29 +218,30 @@ impl<H: Mainframe, R: Relay, M: Meter, G: Gate + Drop> Shared<H, R, M, G> {
     pub fn part<W: Wait>(&self, rt: &W) -> Option<DeskPart<H>>
         ensures { IfSome result (λ part. (part.amount ≡ 0) × (part.seat.mine ≡ [])) }
     {
-        self.locked.lock(rt).held.new_part()
+        self.locked.lock(rt).new_part()
     }
 
     /// Makes an ask of any kind under the lock, and gives the turn after it, and the session that it brings the desk.
-    /// If it changes the turn, it wakes the threads that wait. It leaves the answer in `answer`, and what comes beside
-    /// it in `left`.
+    /// The threads of one that has just joined share this room. If it changes the turn, it wakes the threads that wait.
+    /// It leaves the answer in `answer`, and what comes beside it in `left`.
     #[inline(always)]
     pub fn act<E: EventKind<R, M>, W: Wait>(
         &self,
         rt: &W,
         part: &mut DeskPart<H>,
-        coming: Coming<H>,
+        room: Option<Arc<Room<H>, Global>>,
         ask: E::Ask,
         answer: &mut E::Answer,
         left: &mut E::Left,
     ) -> (u64, Option<Session<H>>)
         requires { E.is_blank left.old }
-        ensures { AsksOnce H.first (E.asked ask) (E.answered answer.new left.new) part.old part.new }
+        ensures once { AsksOnce H.first (E.asked ask) (E.answered answer.new left.new) part.old part.new }
+        ensures session { IfSome result.1 (λ session.
+            session_told (E.answered answer.new left.new) ≡ Some (Joined session)) }
     {
         let mut guard = lock_soon(&self.locked, rt);
         let before = guard.held.turn();
-        guard.held.act::<E>(part, ask, answer, left);
-        let session = followed::<H, R, M, E>(&mut guard.halves, coming, answer);
+        let session = guard.act::<E>(part, room, ask, answer, left);
         let turn = guard.held.turn();
         drop(guard);
         if turn != before {
@@ -277,7 +256,7 @@ impl<H: Mainframe, R: Relay, M: Meter, G: Gate + Drop> Shared<H, R, M, G> {
         ensures { OpensAll H.first part.new }
     {
         let mut guard = lock_soon(&self.locked, rt);
-        open_relays(&mut guard.held, part);
+        guard.open_all(part);
         let turn = guard.held.turn();
         drop(guard);
         self.happened.notify_all();
@@ -301,14 +280,11 @@ impl<H: Mainframe, R: Relay, M: Meter, G: Gate + Drop> Shared<H, R, M, G> {
         ensures { result ≡ Closing → H.over }
     {
         let guard = self.locked.lock(rt);
-        let (guard, _) = self.happened.wait_timeout_while(
-            rt,
-            guard,
-            Duration::from_millis(ms as u64),
-            |locked| {
+        let (guard, _) = self
+            .happened
+            .wait_timeout_while(rt, guard, Duration::from_millis(ms as u64), |locked| {
                 outcome_of(seen, locked.held.turn(), locked.held.is_closing()) == Woken::Unchanged
-            },
-        );
+            });
         outcome_of(seen, guard.held.turn(), guard.held.is_closing())
     }
 
@@ -354,7 +330,7 @@ impl<H: Mainframe, R: Relay, M: Meter, G: Gate + Drop> Shared<H, R, M, G> {
 
     /// Ends every wait, and sends no more work: workers end once they have taken what was sent.
     pub fn end_work<W: Wait>(&self, rt: &W) {
-        self.locked.lock(rt).held.close();
+        self.locked.lock(rt).close();
         self.happened.notify_all();
         let ended = self.senders.lock(rt).take();
         drop(ended);
@@ -377,18 +353,6 @@ impl<H: Mainframe, R: Relay, M: Meter, G: Gate + Drop> Shared<H, R, M, G> {
         ensures back { IfErr result (λ back. back.items ≡ desks.items) }
     {
         let mut guard = self.locked.lock(rt);
-        let held = &mut guard.held;
-        if !held.is_at_rest() {
-            return Err(desks);
-        }
-        let Some(spare) = held.take_spare(desks.len() as u64) else {
-            return Err(desks);
-        };
-        held.has_history();
-        let mut all = gather(spare, desks);
-        let events = held.number(&mut all);
-        let mut part = held.last_part(all.split_off(1, 0));
-        let cards = take_cards(held, &mut part, room);
-        Ok(Closed { events, cards })
+        close_held(&mut guard.held, desks, room)
     }
 }

@@ -5,10 +5,10 @@ ghost use Rattle.sw_talk.specs.CoreDesk.{piece_seen};
 
 use crate::pauses::Pause;
 use crossbeam_channel::{Receiver, RecvError, RecvTimeoutError, SendError, Sender};
-use std::thread;
 use std::alloc::{AllocError, Global};
 use std::marker::Brand;
 use std::sync::Wait;
+use std::thread;
 use std::time::{Clock, Duration, Instant};
 use sw_cage::Job;
 use sw_card::Meter;

@@ -17,4 +17,5 @@ loop-before-preserved g c =
       good = c.runs_go_on.ensures.good _ c.has_history.ensures.reached;
       count = omega (arith, c.push.ensures.upper_bound, i.count);
       room = omega (arith, c.push.ensures.capacity, i.room);
+      joined = λ sid is. t.joined sid (i.joined sid is);
     }

@@ -3,6 +3,7 @@ use Rattle.std.specs.Vec.{vec_capacity}
 use Rattle.sw_base.specs.Limits.{most_slots}
 use Rattle.sw_cage.specs.Accounts.{accounts_of, all_open}
 use Rattle.sw_core.specs.Good.{IsGoodPanel}
+use Rattle.sw_workers.specs.Halves.{StayJoined}
 use Rattle.sw_workers.proofs.closing.take_cards.Given as goal
 
 -- the cards so far, and those of the slots still to come, are those of all slots
@@ -12,4 +13,5 @@ invariant-loop-before g l = record {
   good : IsGoodPanel l.held.panel;
   count : vec_len l.cards ≤ l.before;
   room : most_slots ≤ vec_capacity l.cards;
+  joined : StayJoined l.fn.held.panel l.held.panel;
 }

@@ -16,6 +16,7 @@ returns-in-Ejected g c =
     record {
       card = sym (ap (λ (x : Answer _ _). ejected (answer_seen x)) c.in-Ejected.is) ∙ l.card;
       others = l.others;
+      joined = λ sid is. c.sessions_stay.ensures.stays p q ask failed answer sid c.ask.ensures.step is (λ e. cc (e));
     }
 
 pub returns-in_default : goal.returns-in_default
@@ -30,4 +31,5 @@ returns-in_default g c =
     record {
       card = sym (not_ejected c.ask.result c.in_default.not-Ejected) ∙ l.card;
       others = l.others;
+      joined = λ sid is. c.sessions_stay.ensures.stays p q ask failed answer sid c.ask.ensures.step is (λ e. cc (e));
     }

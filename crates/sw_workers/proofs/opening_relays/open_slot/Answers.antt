@@ -31,6 +31,15 @@ returns-in-Ejected-clause-entries g c =
     slot_back start p m q c.args.slot card (answer_seen c.ask-in-Ejected.result) c.args.held.now.history c.ask.new.self.history c.ask-in-Ejected.new.self.history
     c.ask.new.part.seat c.ask-in-Ejected.new.part.seat out c.ask-in-Ejected.ensures.asked c.ask-in-Ejected.ensures.history
 
+pub returns-in-Ejected-clause-joined : goal.returns-in-Ejected-clause-joined
+returns-in-Ejected-clause-joined g c = λ sid is.
+    let p = c.args.held.now.panel in
+    let m = c.ask.new.self.panel in
+    let q = c.ask-in-Ejected.new.self.panel in
+    let mid = c.sessions_stay.ensures.stays p m (AskEject c.args.slot) _ (answer_seen c.ask.result) sid c.ask.ensures.step is (λ e. cc (e)) in
+    c.sessions_stay.ensures.stays m q (AskInstall c.args.slot c.in-Ejected.card.1) _ (answer_seen c.ask-in-Ejected.result) sid c.ask-in-Ejected.ensures.step mid
+    (λ e. cc (e))
+
 pub returns-in_default : goal.returns-in_default
 returns-in_default g c =
     let p = c.args.held.now.panel in
@@ -43,4 +52,5 @@ returns-in_default g c =
           c.ask.ensures.asked c.ask.ensures.history;
       reopens = reopens_none p m c.args.slot (answer_seen c.ask.result) out.0 (not_ejected c.ask.result c.in_default.not-Ejected) out.1;
       seen = c.ask.ensures.seen.1;
+      joined = λ sid is. c.sessions_stay.ensures.stays p m (AskEject c.args.slot) _ (answer_seen c.ask.result) sid c.ask.ensures.step is (λ e. cc (e));
     }

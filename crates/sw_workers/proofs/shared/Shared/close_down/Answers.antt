@@ -1,20 +1,6 @@
-use Rattle.std.proofs.Common.{rules, ◌≡◌, true, subst, sym}
-use Rattle.sw_history.specs.Closing.{EndsAtRest}
-use Rattle.sw_history.specs.Held.{Locked}
+use Rattle.sw_workers.proofs.HalvesLemmas.{joined_on}
 use Rattle.sw_workers.proofs.shared.Shared.close_down.Goals as goal
 
-pub returns-clause-cards : goal.returns-clause-cards
-returns-clause-cards g c =
-    let seen : Locked = c.take_spare.new.self in
-    let at_rest : c.is_at_rest.result ≡ true = search rules in
-    let counted : c.number-events.result ≡ seen.panel.events = search rules in
-    record {
-      panel = seen.panel;
-      history = seen.history;
-      leads = c.has_history.ensures.leads;
-      rests = subst (λ (l : Locked). EndsAtRest g.H.Recording.first l.history l.panel) (sym c.take_spare.ensures.same) (c.is_at_rest.ensures at_rest);
-      fresh = c.has_history.ensures.fresh;
-      reached = c.has_history.ensures.reached;
-      count = counted;
-      by_slot = search rules;
-    }
+pub invariant_of-behind-guard : goal.invariant_of-behind-guard
+invariant_of-behind-guard g c =
+    joined_on c.behind-guard.inside.held.panel c.close_held.new.held.panel c.behind-guard.inside.halves c.close_held.ensures.joined c.behind-guard.invariant
