@@ -112,3 +112,56 @@ fn a_session_that_left_notes_nothing_for_the_next_one(rt: HostRuntime) {
         ) == Some(last)
     );
 }
+
+/// Whether the session of this desk, once its second channel's desk has left it, is attached to no more, and the next
+/// one of its number sees nothing of its messages.
+fn ends_by_its_second<D: Desk>(first: &mut D, second: &mut D, now: Sid) -> bool {
+    drop(second.ask(SessionAsk::Leave(now)));
+    let is_gone = !attaches(second, now);
+    match join(second) {
+        Some(next) => {
+            first.note(now, true);
+            is_gone && next.number == now.number && next != now && !has_message(second, next)
+        }
+        None => false,
+    }
+}
+
+/// Session 2 leaves with a message before its second channel came. The next one of its number is attached to, and both
+/// its desks see its own messages alone; then its second channel leaves it. Gives the desks back, where all went as it
+/// should.
+pub fn is_attached_anew<D: Desk + Drop + Send + 'static>(
+    first: D,
+    second: D,
+    third: D,
+) -> Option<(D, D, D)> {
+    let mut first = first;
+    let mut second = second;
+    let mut third = third;
+    let one = join(&mut first)?;
+    let left = join(&mut second)?;
+    second.note(left, true);
+    drop(second.ask(SessionAsk::Leave(left)));
+    let now = join(&mut second)?;
+    let is_attached = attaches(&mut third, now);
+    let begins_without = is_attached && !has_message(&mut third, now);
+    second.note(now, true);
+    let is_seen = has_message(&mut third, now) && !has_message(&mut third, left);
+    if begins_without
+        && is_seen
+        && ends_by_its_second(&mut second, &mut third, now)
+        && !has_message(&mut first, one)
+    {
+        return Some((first, second, third));
+    }
+    None
+}
+
+#[test]
+fn the_next_session_of_a_number_is_attached_to_as_itself(rt: HostRuntime) {
+    let last = Note {
+        number: 9,
+        ask: AskKind::Join,
+    };
+    assert!(rt; played(rt, rt.alloc(), SimSource::new(1, 1), Open, &Scene::Attached) == Some(last));
+}

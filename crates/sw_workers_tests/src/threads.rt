@@ -3,7 +3,7 @@
 
 use crate::lasting::{Paused, goes_far, lasts};
 use crate::latches::{Latch, LatchedDriver, LatchedGate, LatchedSource, SharedLatch, turn};
-use crate::notes::{is_succeeded, looks};
+use crate::notes::{is_attached_anew, is_succeeded, looks};
 use crate::shop::{comes_to_tell, join, locks, played, played_by, releases, tells};
 use crate::timers::{Signalled, outpaces};
 use crate::waiters::{go_on_together, misses_no_wake, uses_its_limit_up};
@@ -35,6 +35,7 @@ pub enum Scene<C: Clock + Drop> {
     Lasts(Paused),
     Far,
     Succeeded,
+    Attached,
     Undisturbed,
     Closes,
     AtOnce,
@@ -61,6 +62,7 @@ impl<W: Threads + Wait + Clock + Copy + Drop + Send + Sync + 'static> Scene<W> {
             Scene::Lasts(scan) => lasts(&rt, alloc, scan, first, second, third),
             Scene::Far => goes_far(alloc, first, second, third),
             Scene::Succeeded => is_succeeded(first, second, third),
+            Scene::Attached => is_attached_anew(first, second, third),
             Scene::Undisturbed => is_undisturbed(alloc, first, second, third),
             Scene::Closes => closes(alloc, first, second, third),
             Scene::AtOnce => asks_at_once(rt, alloc, first, second, third),
