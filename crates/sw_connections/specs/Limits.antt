@@ -35,12 +35,12 @@ slice_of None = most_slice
 slice_of (Some left) = at_most most_slice left
 
 -- how many connections may be without a session
-abbrev pub most_standing : ℕ
-most_standing = 64
+abbrev pub most_pending : ℕ
+most_pending = 64
 
 -- how many there are with one more, which finds no room beside the most
 abbrev pub one_more : ℕ → Option ℕ
-one_more standing = if nat_lt standing most_standing then Some (standing + 1) else None
+one_more pending = if nat_lt pending most_pending then Some (pending + 1) else None
 
 -- How long a connection may be open, in milliseconds from its beginning: 10 seconds until its first header is whole, a
 -- minute until its session has both connections, without a limit from then on.

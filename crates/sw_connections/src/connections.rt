@@ -11,17 +11,17 @@ use sw_base::SESSIONS;
 use sw_session::Channel;
 
 /// How many connections may be without a session; a further one is closed at once.
-const MOST_STANDING: u32 = 64;
+const MOST_PENDING: u32 = 64;
 
 /// The connections for which there is memory from the beginning: those without a session, and two for each session.
-const ROOM: usize = MOST_STANDING as usize + 2 * SESSIONS as usize;
+const ROOM: usize = MOST_PENDING as usize + 2 * SESSIONS as usize;
 
 /// The count with one more. None where there is no room for it.
-fn one_more(standing: u32) -> Option<u32>
-    ensures { result ≡ one_more standing }
+fn one_more(pending: u32) -> Option<u32>
+    ensures { result ≡ one_more pending }
 {
-    if standing < MOST_STANDING {
-        Some(standing + 1)
+    if pending < MOST_PENDING {
+        Some(pending + 1)
     } else {
         None
     }
@@ -78,7 +78,7 @@ impl Row {
 #[derive(Drop)]
 struct Rows {
     rows: Vec<Row>,
-    standing: u32,
+    pending: u32,
     /// The next one's ticket.
     next: u64,
     /// The server ends, and serves no further one.
@@ -87,11 +87,11 @@ struct Rows {
 
 impl Rows {
     /// One more, where there is room for it: its ticket.
-    fn enter(&mut self, line: Option<Line>) -> Option<u64> {
+    fn admit(&mut self, line: Option<Line>) -> Option<u64> {
         if self.is_closed {
             return None;
         }
-        let standing = one_more(self.standing)?;
+        let pending = one_more(self.pending)?;
         let ticket = self.next;
         let row = Row {
             ticket,
@@ -99,7 +99,7 @@ impl Rows {
             channel: None,
         };
         self.rows.push(row).ok()?;
-        self.standing = standing;
+        self.pending = pending;
         self.next = ticket.wrapping_add(1);
         Some(ticket)
     }
@@ -109,7 +109,7 @@ impl Rows {
         for row in self.rows.iter_mut() {
             if row.ticket == ticket && row.channel.is_none() {
                 row.channel = Some(channel);
-                self.standing = self.standing.saturating_sub(1);
+                self.pending = self.pending.saturating_sub(1);
             }
         }
     }
@@ -118,7 +118,7 @@ impl Rows {
     fn leave(&mut self, ticket: u64) {
         for row in self.rows.iter() {
             if row.ticket == ticket && row.channel.is_none() {
-                self.standing = self.standing.saturating_sub(1);
+                self.pending = self.pending.saturating_sub(1);
             }
         }
         self.rows.retain(|row| row.ticket != ticket);
@@ -136,7 +136,7 @@ impl Connections {
     pub fn new(alloc: Global) -> Result<Self, AllocError> {
         let rows = Rows {
             rows: Vec::with_capacity(alloc, ROOM)?,
-            standing: 0,
+            pending: 0,
             next: 0,
             is_closed: false,
         };
@@ -147,8 +147,8 @@ impl Connections {
 
     /// One more connection is served, which has no session yet: its ticket. None where there is no room, or the server
     /// ends.
-    pub fn enter<W: Wait>(&self, rt: &W, line: Option<Line>) -> Option<u64> {
-        self.rows.lock(rt).enter(line)
+    pub fn admit<W: Wait>(&self, rt: &W, line: Option<Line>) -> Option<u64> {
+        self.rows.lock(rt).admit(line)
     }
 
     /// The connection with this ticket has a session, whose channel it is.

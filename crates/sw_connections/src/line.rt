@@ -141,15 +141,15 @@ pub trait Hearing {
     ghost use Rattle.std.specs.Prelude.{◌≡◌, true};
 
     /// A client was found to have ended its connection.
-    ghost deserted: { Type 0 };
+    ghost client_gone: { Type 0 };
 
     /// Whether the client has ended the connection.
     fn has_ended(line: &Line) -> bool
-        ensures { result ≡ true → deserted };
+        ensures { result ≡ true → client_gone };
 }
 
 impl Hearing for Brand {
-    ghost deserted = { Unit {0} };
+    ghost client_gone = { Unit {0} };
 
     fn has_ended(line: &Line) -> bool {
         line.has_ended()

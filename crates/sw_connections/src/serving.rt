@@ -60,7 +60,7 @@ impl<H: Clients> Serving<H> {
             Some(line) => line.try_clone().ok(),
             None => None,
         };
-        let Some(ticket) = self.connections.enter(rt, copy) else {
+        let Some(ticket) = self.connections.admit(rt, copy) else {
             drop(room);
             return false;
         };
@@ -155,8 +155,8 @@ impl<H: Clients> Serving<H> {
     }
 
     /// Whether the client has ended the line.
-    pub fn is_deserted<W: Wait>(&self, rt: &W) -> bool
-        ensures { result ≡ true → H.deserted }
+    pub fn is_client_gone<W: Wait>(&self, rt: &W) -> bool
+        ensures { result ≡ true → H.client_gone }
     {
         match &self.served.lock(rt).line {
             Some(line) => H::has_ended(line),

@@ -32,11 +32,11 @@ use Rattle.sw_core.specs.Step.{StepJoin, StepAttach, StepSession, outside_told, 
 use Rattle.sw_core.specs.Step.{IsEvent, IsUnnumbered, Step}
 use Rattle.sw_core.specs.Seen.{WorkSeen, AskSeen, AskSession, AskInstall, AskEject, AskExternal, AskElapsed, AskFinished, AnswerSeen, SaysSession}
 use Rattle.sw_core.specs.Seen.{SaysInstalled, SaysNotInstalled, SaysEjected, SaysNotEjected, SaysTaken, SaysMissed, SaysFailed, SaysBack, SaysWorn}
-use Rattle.sw_history.specs.declared.waking.Concern.{Concern}
-use Rattle.sw_history.specs.declared.waking.Concern.TheVariants.{Nobody, ScanBy, Scan}
+use Rattle.sw_history.specs.declared.waking.WakeScope.{WakeScope}
+use Rattle.sw_history.specs.declared.waking.WakeScope.TheVariants.{Nobody, ScanBy, Scan}
 use Rattle.sw_history.specs.History.{AwaitsEnd}
 use Rattle.sw_history.specs.Shares.{is_session_event, is_event, is_counted, one_if}
-use Rattle.sw_history.specs.Waking.{may_end, concern_of, changes_seats, may_be_over, wakes, next_turn, turn_after, TellsScan, HoldsOn, WhoMayGoOnIsWoken}
+use Rattle.sw_history.specs.Waking.{may_end, scope_of, changes_seats, may_be_over, wakes, next_turn, turn_after, TellsScan, HoldsOn, WhoMayGoOnIsWoken}
 use Rattle.sw_history.proofs.CommandedLemmas.{Leaves, leaves_unit, happens_seats}
 use Rattle.sw_history.proofs.CountedLemmas.{step_counted}
 use Rattle.sw_history.proofs.HoldsLemmas.{Keeps, keeps_seats, held_again, by_tests, opc, awaits, awaits_from}
@@ -130,14 +130,14 @@ after_event false c e h = absurd (true≢false (sym e))
 pub record Silent (ask : AskSeen) (p : Panel) (a : AnswerSeen) (ran runs : Bool) (done q : Panel) : Type 0 where
   pub number : (p.events == last_number) ≡ false
   pub event : is_event a ≡ true
-  pub before : TellsScan (concern_of ask) p ran
-  pub after : TellsScan (concern_of ask) q runs
-  pub silent : wakes (concern_of ask) ran runs a ≡ false
+  pub before : TellsScan (scope_of ask) p ran
+  pub after : TellsScan (scope_of ask) q runs
+  pub silent : wakes (scope_of ask) ran runs a ≡ false
   pub seats : q.sessions ≡ done.sessions
   pub scan : is_running q ≡ is_running done
 
--- a unit that may end a scan is of that concern
-abbrev by_ends : Bool → Sid → Concern
+-- a unit that may end a scan is of that scope
+abbrev by_ends : Bool → Sid → WakeScope
 by_ends ends sid = if ends then ScanBy sid else Nobody
 
 unit_keeps : (ends : Bool) (p : Panel) (sid : Sid) (command : Command) (available : Bool) (f : Bool) (a : SessionAnswer) (o : Option WorkSeen)
@@ -179,7 +179,7 @@ lock_keeps p sid key a o q t e n h is = absurd h
 
 seat_keeps : (p : Panel) (w : SessionAsk) (f : Bool) (a : SessionAnswer) (o : Option WorkSeen) (q : Panel) (sid : Sid) → asker_of w ≡ Some sid
     → IsJoined p.sessions sid → is_session_event a ≡ true
-    → (ran runs : Bool) → wakes (concern_of (AskSession w)) ran runs (SaysSession a o) ≡ false
+    → (ran runs : Bool) → wakes (scope_of (AskSession w)) ran runs (SaysSession a o) ≡ false
     → (t : SessionsSeen) → StepSeat p.sessions w a t → q ≡ record p { sessions = t } → Keeps p q
 seat_keeps p (Ask.Leave s) f (Done None) o q sid k j e ran runs n t h is = absurd (true≢false n)
 seat_keeps p (Ask.Attached s) f (Done None) o q sid k j e ran runs n t h is = served_same p q t is h.1
@@ -232,7 +232,7 @@ fault_keeps p sid e f a o q h = absurd h
 -- what is asked of the seat alone
 served_keeps : (p : Panel) (w : SessionAsk) (f : Bool) (a : SessionAnswer) (o : Option WorkSeen) (q : Panel) (sid : Sid) → asker_of w ≡ Some sid
     → IsJoined p.sessions sid → is_session_event a ≡ true
-    → (ran runs : Bool) → wakes (concern_of (AskSession w)) ran runs (SaysSession a o) ≡ false → IsServed p w f a q → Keeps p q
+    → (ran runs : Bool) → wakes (scope_of (AskSession w)) ran runs (SaysSession a o) ≡ false → IsServed p w f a q → Keeps p q
 served_keeps p w f a o q sid k j e ran runs n h = seat_keeps p w f a o q sid k j e ran runs n h.sessions h.served h.after
 
 known_keeps : (p : Panel) (w : SessionAsk) (f : Bool) (a : SessionAnswer) (o : Option WorkSeen) (done q : Panel) (sid : Sid) (ran runs : Bool)
@@ -341,10 +341,10 @@ finished_keeps : (p : Panel) (done : FinishedSeen) (f : Bool) (a : AnswerSeen) (
 finished_keeps p done f SaysBack q n h = same_keeps p q h.2
 finished_keeps p done f a q n h = returned_keeps p done f h.told a q n h.answer_is h.returns
 
-over_not : {ask : AskSeen} {p : Panel} {a : AnswerSeen} {ran runs : Bool} {done q : Panel} → concern_of ask ≡ Scan → Silent ask p a ran runs done q
+over_not : {ask : AskSeen} {p : Panel} {a : AnswerSeen} {ran runs : Bool} {done q : Panel} → scope_of ask ≡ Scan → Silent ask p a ran runs done q
     → may_be_over a ≡ false
 over_not {ask} {p} {a} {ran} {runs} k i =
-    after_event (is_event a) (may_be_over a) i.event (sym (ap (λ (c : Concern). wakes c ran runs a) k) ∙ i.silent)
+    after_event (is_event a) (may_be_over a) i.event (sym (ap (λ (c : WakeScope). wakes c ran runs a) k) ∙ i.silent)
 
 acts_keeps : (p : Panel) (ask : AskSeen) (f : Bool) (a : AnswerSeen) (done q : Panel) (ran runs : Bool) → Acts p ask f a done
     → Silent ask p a ran runs done q → Keeps p done
@@ -397,8 +397,8 @@ keeps_end p done q s r k = record {
 }
 
 event_keeps : (p : Panel) (ask : AskSeen) (f : Bool) (a : AnswerSeen) (q : Panel) (ran runs : Bool) → IsEvent p ask f a q
-    → (p.events == last_number) ≡ false → is_event a ≡ true → TellsScan (concern_of ask) p ran → TellsScan (concern_of ask) q runs
-    → wakes (concern_of ask) ran runs a ≡ false → Keeps p q
+    → (p.events == last_number) ≡ false → is_event a ≡ true → TellsScan (scope_of ask) p ran → TellsScan (scope_of ask) q runs
+    → wakes (scope_of ask) ran runs a ≡ false → Keeps p q
 event_keeps p ask f a q ran runs h n e b c w =
     let s : q.sessions ≡ h.done.sessions = ap (λ (x : Panel). x.sessions) h.after ∙ (event_ends a h.done).0 in
     let r : is_running q ≡ is_running h.done = ap is_running h.after ∙ (event_ends a h.done).1 in
@@ -407,22 +407,22 @@ event_keeps p ask f a q ran runs h n e b c w =
 
 by_number : (b : Bool) (p : Panel) (ask : AskSeen) (f : Bool) (a : AnswerSeen) (q : Panel) (ran runs : Bool)
     → MatchBool b (IsUnnumbered p ask f a q) (IsEvent p ask f a q) → (p.events == last_number) ≡ false → is_event a ≡ true
-    → TellsScan (concern_of ask) p ran → TellsScan (concern_of ask) q runs → wakes (concern_of ask) ran runs a ≡ false → Keeps p q
+    → TellsScan (scope_of ask) p ran → TellsScan (scope_of ask) q runs → wakes (scope_of ask) ran runs a ≡ false → Keeps p q
 by_number true p ask f a q ran runs h n e b c w = same_keeps p q h.same
 by_number false p ask f a q ran runs h n e b c w = event_keeps p ask f a q ran runs h n e b c w
 
 by_event : (is : Bool) (p : Panel) (ask : AskSeen) (f : Bool) (a : AnswerSeen) (q : Panel) (ran runs : Bool) → is_event a ≡ is → Step p ask f a q
-    → (p.events == last_number) ≡ false → TellsScan (concern_of ask) p ran → TellsScan (concern_of ask) q runs
-    → wakes (concern_of ask) ran runs a ≡ false → Keeps p q
+    → (p.events == last_number) ≡ false → TellsScan (scope_of ask) p ran → TellsScan (scope_of ask) q runs
+    → wakes (scope_of ask) ran runs a ≡ false → Keeps p q
 by_event false p ask f a q ran runs e h n b c w = same_keeps p q (step_unmoved p ask f a q h e)
 by_event true p ask f a q ran runs e h n b c w =
     by_number ((p.events == last_number) && not (acts_unnumbered ask)) p ask f a q ran runs h n e b c w
 
 law : (p q : Panel) (ask : AskSeen) (failed : Bool) (answer : AnswerSeen) (ran runs : Bool) (turn : ℕ) → Step p ask failed answer q
-    → TellsScan (concern_of ask) p ran → TellsScan (concern_of ask) q runs
-    → turn_after turn (wakes (concern_of ask) ran runs answer) q.events ≡ turn → HoldsOn p q
+    → TellsScan (scope_of ask) p ran → TellsScan (scope_of ask) q runs
+    → turn_after turn (wakes (scope_of ask) ran runs answer) q.events ≡ turn → HoldsOn p q
 law p q ask failed answer ran runs turn h b c t =
-    let s = stays_turn (wakes (concern_of ask) ran runs answer) (q.events == last_number) turn t in
+    let s = stays_turn (wakes (scope_of ask) ran runs answer) (q.events == last_number) turn t in
     held_again p q
     (by_event (is_event answer) p ask failed answer q ran runs refl h (numbered p ask failed answer q h s.1) b c s.0) s.1
 

@@ -11,8 +11,8 @@ use Rattle.sw_core.specs.Panel.{Panel}
 use Rattle.sw_core.specs.Seen.{AskSeen, AskSession, AskInstall, AskEject, AskExternal, AskElapsed, AskFinished}
 use Rattle.sw_core.specs.Seen.{AnswerSeen, SaysSession, SaysTaken, SaysMissed, SaysNotEjected}
 use Rattle.sw_core.specs.Step.{Step}
-use Rattle.sw_history.specs.declared.waking.Concern.{Concern}
-use Rattle.sw_history.specs.declared.waking.Concern.TheVariants.{Nobody, Seats, ScanBy, Scan}
+use Rattle.sw_history.specs.declared.waking.WakeScope.{WakeScope}
+use Rattle.sw_history.specs.declared.waking.WakeScope.TheVariants.{Nobody, Seats, ScanBy, Scan}
 use Rattle.sw_history.specs.History.{AwaitsEnd}
 use Rattle.sw_history.specs.Shares.{is_event}
 
@@ -25,31 +25,31 @@ may_end (command.Signal layer) = true
 may_end unit = false
 
 -- the causes of a hold that a session's ask may end: locks and clears, or the scan
-abbrev pub session_concern : SessionAsk → Concern
-session_concern Ask.Join = Nobody
-session_concern (Ask.Attach number) = Nobody
-session_concern (Ask.Attached sid) = Nobody
-session_concern (Ask.Leave sid) = Seats
-session_concern (Ask.Size sid size) = Nobody
-session_concern (Ask.MaxSize sid) = Nobody
-session_concern (Ask.Clear sid) = Seats
-session_concern (Ask.Cleared sid) = Nobody
-session_concern (Ask.Lock sid key) = Seats
-session_concern (Ask.Release sid) = Seats
-session_concern (Ask.LockInfo sid) = Nobody
-session_concern (Ask.Unit sid unit available) = if may_end unit then ScanBy sid else Nobody
-session_concern (Ask.Fault sid error) = Nobody
-session_concern (Ask.Bus sid) = ScanBy sid
-session_concern (Ask.Snapshot sid) = Nobody
-session_concern (Ask.Start sid plan) = Nobody
+abbrev pub session_scope : SessionAsk → WakeScope
+session_scope Ask.Join = Nobody
+session_scope (Ask.Attach number) = Nobody
+session_scope (Ask.Attached sid) = Nobody
+session_scope (Ask.Leave sid) = Seats
+session_scope (Ask.Size sid size) = Nobody
+session_scope (Ask.MaxSize sid) = Nobody
+session_scope (Ask.Clear sid) = Seats
+session_scope (Ask.Cleared sid) = Nobody
+session_scope (Ask.Lock sid key) = Seats
+session_scope (Ask.Release sid) = Seats
+session_scope (Ask.LockInfo sid) = Nobody
+session_scope (Ask.Unit sid unit available) = if may_end unit then ScanBy sid else Nobody
+session_scope (Ask.Fault sid error) = Nobody
+session_scope (Ask.Bus sid) = ScanBy sid
+session_scope (Ask.Snapshot sid) = Nobody
+session_scope (Ask.Start sid plan) = Nobody
 
-abbrev pub concern_of : AskSeen → Concern
-concern_of (AskSession ask) = session_concern ask
-concern_of (AskInstall slot card) = Nobody
-concern_of (AskEject slot) = Scan
-concern_of AskExternal = Scan
-concern_of (AskElapsed ticket) = Scan
-concern_of (AskFinished done) = Scan
+abbrev pub scope_of : AskSeen → WakeScope
+scope_of (AskSession ask) = session_scope ask
+scope_of (AskInstall slot card) = Nobody
+scope_of (AskEject slot) = Scan
+scope_of AskExternal = Scan
+scope_of (AskElapsed ticket) = Scan
+scope_of (AskFinished done) = Scan
 
 -- An event with this answer may change locks or clears: a lock or a release that is an error leaves them.
 abbrev pub changes_seats : AnswerSeen → Bool
@@ -66,7 +66,7 @@ may_be_over answer = true
 
 -- Waiting sessions may proceed after an answer. For a session's ask that may end the scan, that is where a scan ran
 -- before it and none runs after it.
-abbrev pub wakes : Concern → Bool → Bool → AnswerSeen → Bool
+abbrev pub wakes : WakeScope → Bool → Bool → AnswerSeen → Bool
 wakes Nobody ran runs answer = false
 wakes Seats ran runs answer = is_event answer && changes_seats answer
 wakes (ScanBy sid) ran runs answer = is_event answer && (ran && not runs)
@@ -88,12 +88,12 @@ abbrev pub HoldsOn : Panel → Panel → Type 0
 HoldsOn p q = (ask : SessionAsk) → IsKeptWaiting p ask → IsKeptWaiting q ask
 
 -- whether a scan runs, where a session's ask may end it: as the mainframe would hold that session's *OPC?
-abbrev pub TellsScan : Concern → Panel → Bool → Type 0
+abbrev pub TellsScan : WakeScope → Panel → Bool → Type 0
 TellsScan (ScanBy sid) p runs = (runs ≡ true) ↔ AwaitsEnd p sid
-TellsScan concern p runs = Unit {0}
+TellsScan scope p runs = Unit {0}
 
 -- A step that ends a hold changes the turn: where the turn stays, the mainframe still holds all that it held.
 pub record WhoMayGoOnIsWoken : Type 0 where
   pub law : (p q : Panel) (ask : AskSeen) (failed : Bool) (answer : AnswerSeen) (ran runs : Bool) (turn : ℕ)
-      → Step p ask failed answer q → TellsScan (concern_of ask) p ran → TellsScan (concern_of ask) q runs
-      → turn_after turn (wakes (concern_of ask) ran runs answer) q.events ≡ turn → HoldsOn p q
+      → Step p ask failed answer q → TellsScan (scope_of ask) p ran → TellsScan (scope_of ask) q runs
+      → turn_after turn (wakes (scope_of ask) ran runs answer) q.events ≡ turn → HoldsOn p q

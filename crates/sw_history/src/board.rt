@@ -74,9 +74,9 @@ impl<T: Telling> Play<(), SeatState> for Publishes<T> {
 }
 
 /// A seat of no desk that has seen the same; and back, so that the other has seen no less.
-pub struct Copies;
+pub struct CopySeat;
 
-impl Split<SeatState> for Copies {
+impl Split<SeatState> for CopySeat {
     ghost use Rattle.sw_history.specs.Board.{reader};
 
     ghost left = { λ v. v };
@@ -84,7 +84,7 @@ impl Split<SeatState> for Copies {
     ghost right = { reader };
 }
 
-impl Join<SeatState> for Copies {
+impl Join<SeatState> for CopySeat {
     ghost use Rattle.sw_history.specs.Board.{told_known, spent};
 
     ghost both = { told_known };
@@ -93,9 +93,9 @@ impl Join<SeatState> for Copies {
 }
 
 /// A seat of a new desk, from the pass that publishes.
-pub struct Desks;
+pub struct NewDesk;
 
-impl Split<SeatState> for Desks {
+impl Split<SeatState> for NewDesk {
     ghost use Rattle.sw_history.specs.Board.{after_desk, new_desk};
 
     ghost left = { after_desk };
@@ -104,9 +104,9 @@ impl Split<SeatState> for Desks {
 }
 
 /// A desk leaves its seat, and moves to the pass that publishes.
-pub struct Lends;
+pub struct LendDesk;
 
-impl Split<SeatState> for Lends {
+impl Split<SeatState> for LendDesk {
     ghost use Rattle.sw_history.specs.Board.{without_desk, of_desk};
 
     ghost left = { without_desk };
@@ -114,7 +114,7 @@ impl Split<SeatState> for Lends {
     ghost right = { of_desk };
 }
 
-impl Join<SeatState> for Lends {
+impl Join<SeatState> for LendDesk {
     ghost use Rattle.sw_history.specs.Board.{desk_taken_over, spent};
 
     ghost both = { desk_taken_over };
@@ -123,9 +123,9 @@ impl Join<SeatState> for Lends {
 }
 
 /// A desk returns to its seat.
-pub struct Returns;
+pub struct ReturnDesk;
 
-impl Join<SeatState> for Returns {
+impl Join<SeatState> for ReturnDesk {
     ghost use Rattle.sw_history.specs.Board.{replaced, spent};
 
     ghost both = { replaced };

@@ -3,7 +3,7 @@
 
 use crate::coming::Coming;
 use crate::note::AskKind;
-use crate::waking::{Concern, may_end};
+use crate::waking::{WakeScope, may_end};
 use std::alloc::Global;
 use std::mem::replace;
 use sw_card::{Meter, Relay};
@@ -19,7 +19,7 @@ pub trait EventKind<R: Relay, M: Meter> {
     ghost use Rattle.sw_history.specs.Kinds.{ask_kind};
     ghost use Rattle.sw_history.specs.Said.{session_told};
     ghost use Rattle.sw_history.specs.Shares.{is_event};
-    ghost use Rattle.sw_history.specs.Waking.{concern_of, changes_seats, may_be_over};
+    ghost use Rattle.sw_history.specs.Waking.{scope_of, changes_seats, may_be_over};
 
     /// What is asked.
     type Ask: Drop;
@@ -61,8 +61,8 @@ pub trait EventKind<R: Relay, M: Meter> {
         ensures { result ≡ ask_kind (asked ask.now) };
 
     /// The causes of a hold that the ask may end.
-    fn concern(ask: &Self::Ask) -> Concern
-        ensures { result ≡ concern_of (asked ask.now) };
+    fn scope(ask: &Self::Ask) -> WakeScope
+        ensures { result ≡ scope_of (asked ask.now) };
 
     /// Which session it is to bring or to take away.
     fn coming(ask: &Self::Ask) -> Coming
@@ -144,18 +144,18 @@ impl<R: Relay, M: Meter> EventKind<R, M> for BySession {
         }
     }
 
-    fn concern(ask: &SessionAsk) -> Concern {
+    fn scope(ask: &SessionAsk) -> WakeScope {
         match ask {
-            SessionAsk::Lock(_, _) | SessionAsk::Release(_) => Concern::Seats,
-            SessionAsk::Leave(_) | SessionAsk::Clear(_) => Concern::Seats,
-            SessionAsk::Unit(sid, command, _) if may_end(command) => Concern::ScanBy(*sid),
-            SessionAsk::Unit(_, _, _) => Concern::Nobody,
-            SessionAsk::Bus(sid) => Concern::ScanBy(*sid),
-            SessionAsk::Join | SessionAsk::Attach(_) | SessionAsk::Attached(_) => Concern::Nobody,
-            SessionAsk::Size(_, _) | SessionAsk::MaxSize(_) => Concern::Nobody,
-            SessionAsk::Cleared(_) | SessionAsk::LockInfo(_) => Concern::Nobody,
-            SessionAsk::Fault(_, _) | SessionAsk::Snapshot(_) => Concern::Nobody,
-            SessionAsk::Start(_, _) => Concern::Nobody,
+            SessionAsk::Lock(_, _) | SessionAsk::Release(_) => WakeScope::Seats,
+            SessionAsk::Leave(_) | SessionAsk::Clear(_) => WakeScope::Seats,
+            SessionAsk::Unit(sid, command, _) if may_end(command) => WakeScope::ScanBy(*sid),
+            SessionAsk::Unit(_, _, _) => WakeScope::Nobody,
+            SessionAsk::Bus(sid) => WakeScope::ScanBy(*sid),
+            SessionAsk::Join | SessionAsk::Attach(_) | SessionAsk::Attached(_) => WakeScope::Nobody,
+            SessionAsk::Size(_, _) | SessionAsk::MaxSize(_) => WakeScope::Nobody,
+            SessionAsk::Cleared(_) | SessionAsk::LockInfo(_) => WakeScope::Nobody,
+            SessionAsk::Fault(_, _) | SessionAsk::Snapshot(_) => WakeScope::Nobody,
+            SessionAsk::Start(_, _) => WakeScope::Nobody,
         }
     }
 
@@ -239,12 +239,12 @@ impl<R: Relay, M: Meter> EventKind<R, M> for FromOutside {
         }
     }
 
-    fn concern(ask: &Ask<R, M>) -> Concern {
+    fn scope(ask: &Ask<R, M>) -> WakeScope {
         match ask {
-            Ask::Session(ask) => <BySession as EventKind<R, M>>::concern(ask),
-            Ask::Install(_, _) => Concern::Nobody,
-            Ask::Eject(_) | Ask::External => Concern::Scan,
-            Ask::Elapsed(_) | Ask::Finished(_) => Concern::Scan,
+            Ask::Session(ask) => <BySession as EventKind<R, M>>::scope(ask),
+            Ask::Install(_, _) => WakeScope::Nobody,
+            Ask::Eject(_) | Ask::External => WakeScope::Scan,
+            Ask::Elapsed(_) | Ask::Finished(_) => WakeScope::Scan,
         }
     }
 

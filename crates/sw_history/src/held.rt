@@ -24,7 +24,7 @@ use crate::note::Note;
 use crate::recorded::{Recorded, Recording};
 use crate::seat::StatusSeat;
 use crate::seat_slot::SeatSlot;
-use crate::waking::{Concern, turn_after, wakes};
+use crate::waking::{WakeScope, turn_after, wakes};
 use circular_buffer::HeapCircularBuffer;
 use std::alloc::{AllocError, Global};
 use std::marker::{Brand, Model};
@@ -317,11 +317,11 @@ impl<H: History, R: Relay, M: Meter> Held<H, R, M> {
     }
 
     /// Whether a scan runs, where a session's ask may end it.
-    fn tells_scan(&self, concern: Concern) -> bool
-        ensures { TellsScan concern self.now.panel result }
+    fn tells_scan(&self, scope: WakeScope) -> bool
+        ensures { TellsScan scope self.now.panel result }
     {
-        match concern {
-            Concern::ScanBy(sid) => self.awaits_end(sid),
+        match scope {
+            WakeScope::ScanBy(sid) => self.awaits_end(sid),
             _ => false,
         }
     }
@@ -343,11 +343,11 @@ impl<H: History, R: Relay, M: Meter> Held<H, R, M> {
         ensures waits { self.new.turn ≡ self.old.turn → HoldsOn self.old.panel self.new.panel }
     {
         whoever_may_go_on_is_woken();
-        let concern = E::concern(&ask);
-        let ran = self.tells_scan(concern);
+        let scope = E::scope(&ask);
+        let ran = self.tells_scan(scope);
         let happened = self.step::<E>(part, ask, answer, left);
-        let runs = self.tells_scan(concern);
-        self.take_turn(wakes::<R, M, E>(concern, ran, runs, happened, answer));
+        let runs = self.tells_scan(scope);
+        self.take_turn(wakes::<R, M, E>(scope, ran, runs, happened, answer));
     }
 
     /// From now on no thread has to wait.

@@ -7,7 +7,7 @@ ghost use Rattle.sw_history.specs.Board.{first_seat, pair_in, Saw, entry_of, pub
 ghost use Rattle.sw_history.specs.Board.{reader, new_desk, without_desk, of_desk, desk_taken_over};
 
 use crate::board::{
-    BoardName, Compares, Copies, Desks, Lends, Publishes, RawSeat, Reads, Returns, StatusBoard,
+    BoardName, Compares, CopySeat, NewDesk, LendDesk, Publishes, RawSeat, Reads, ReturnDesk, StatusBoard,
     Steps, Telling, word_of,
 };
 use std::marker::{Model, PhantomData};
@@ -49,7 +49,7 @@ impl<B: BoardName> StatusSeat<B> {
         ensures same { self.new ≡ self.old }
         ensures new { result ≡ reader self.old }
     {
-        let seat = board.table.shared.split_seat::<Copies>(&mut self.seat);
+        let seat = board.table.shared.split_seat::<CopySeat>(&mut self.seat);
         StatusSeat {
             seat,
             of: PhantomData,
@@ -63,7 +63,7 @@ impl<B: BoardName> StatusSeat<B> {
         ensures desk { (self.new.desk ≡ self.old.desk) × (self.new.mine ≡ self.old.mine) }
     {
         let StatusSeat { seat, of: _ } = other;
-        board.table.shared.join_seat::<Copies>(&mut self.seat, seat);
+        board.table.shared.join_seat::<CopySeat>(&mut self.seat, seat);
         board.table.shared.load::<Compares>(&mut self.seat, 0);
     }
 }
@@ -93,7 +93,7 @@ impl<B: BoardName> Model for LockedPass<B> {
 
 /// The desk moves to the pass, which learns that the history begins with all that the desk had seen, and has all
 /// entries of the desk.
-fn ride(on: &Steps, pass: &mut RawSeat, desk: &mut RawSeat)
+fn attach_desk(on: &Steps, pass: &mut RawSeat, desk: &mut RawSeat)
     requires table { (pass.old.table_id ≡ on.now.table_id) × (desk.old.table_id ≡ on.now.table_id)
         × (on.now.table_id.words ≡ 1) }
     requires live { (pass.old.me.0.publishes ≡ true) × (pass.old.me.0.live ≡ true) × (desk.old.me.0.live ≡ true) }
@@ -104,13 +104,13 @@ fn ride(on: &Steps, pass: &mut RawSeat, desk: &mut RawSeat)
     ensures later { IsPrefix desk.old.me.0.seen pass.old.me.0.seen }
     ensures own { (d : ℕ) → desk.old.me.0.desk ≡ Some d → made_by d pass.old.me.0.seen ≡ desk.old.me.0.mine }
 {
-    let lent = on.split_seat::<Lends>(desk);
-    on.join_seat::<Lends>(pass, lent);
+    let lent = on.split_seat::<LendDesk>(desk);
+    on.join_seat::<LendDesk>(pass, lent);
     on.load::<Reads>(pass, 0);
 }
 
 /// The desk returns to its seat, and has seen what the pass has.
-fn land(on: &Steps, pass: &mut RawSeat, desk: &mut RawSeat)
+fn detach_desk(on: &Steps, pass: &mut RawSeat, desk: &mut RawSeat)
     requires table { (pass.old.table_id ≡ on.now.table_id) × (desk.old.table_id ≡ on.now.table_id)
         × (on.now.table_id.words ≡ 1) }
     requires desk { (d : ℕ) × (pass.old.me.0.desk ≡ Some d) }
@@ -118,8 +118,8 @@ fn land(on: &Steps, pass: &mut RawSeat, desk: &mut RawSeat)
     ensures pass { pass.new.me ≡ (without_desk pass.old.me.0, pass.old.me.1) }
     ensures desk { desk.new.me ≡ (of_desk pass.old.me.0, desk.old.me.1) }
 {
-    let lent = on.split_seat::<Lends>(pass);
-    on.join_seat::<Returns>(desk, lent);
+    let lent = on.split_seat::<LendDesk>(pass);
+    on.join_seat::<ReturnDesk>(desk, lent);
 }
 
 /// The desk at the pass has one more entry: what is said.
@@ -152,7 +152,7 @@ impl<B: BoardName> LockedPass<B> {
         ensures desk { (d : ℕ) × (result.desk ≡ Some d) }
         ensures seen { (result.seen ≡ self.old) × (result.mine ≡ []) }
     {
-        let seat = board.table.shared.split_seat::<Desks>(&mut self.pass);
+        let seat = board.table.shared.split_seat::<NewDesk>(&mut self.pass);
         StatusSeat {
             seat,
             of: PhantomData,
@@ -168,8 +168,8 @@ impl<B: BoardName> LockedPass<B> {
         ensures own { (d : ℕ) → desk.new.desk ≡ Some d → made_by d desk.new.seen ≡ desk.new.mine }
     {
         let on = &board.table.shared;
-        ride(on, &mut self.pass, &mut desk.seat);
-        land(on, &mut self.pass, &mut desk.seat);
+        attach_desk(on, &mut self.pass, &mut desk.seat);
+        detach_desk(on, &mut self.pass, &mut desk.seat);
     }
 
     /// Publishes an event of the desk with the pair after it: the history has one more entry, of what is said, and the
@@ -190,10 +190,10 @@ impl<B: BoardName> LockedPass<B> {
         ensures own { (d : ℕ) → desk.new.desk ≡ Some d → made_by d desk.new.seen ≡ desk.new.mine }
     {
         let on = &board.table.shared;
-        ride(on, &mut self.pass, &mut desk.seat);
+        attach_desk(on, &mut self.pass, &mut desk.seat);
         let word = word_of(pair);
         put::<T>(on, &mut self.pass, self.word, word);
         self.word = word;
-        land(on, &mut self.pass, &mut desk.seat);
+        detach_desk(on, &mut self.pass, &mut desk.seat);
     }
 }

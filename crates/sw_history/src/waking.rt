@@ -11,7 +11,7 @@ use sw_lex::{Command, NoData};
 
 /// The causes of a hold that an ask may end.
 #[derive(Clone, Copy, Debug, PartialEq, Eq)]
-pub enum Concern {
+pub enum WakeScope {
     /// None.
     Nobody,
     /// Locks or clears.
@@ -43,21 +43,21 @@ pub fn may_end(command: &Command) -> bool
 /// Whether waiting sessions may proceed after an answer. `happened`: the answer is an event's. For a session's ask that
 /// may end the scan, that is where a scan ran before it and none runs after it.
 pub fn wakes<R: Relay, M: Meter, E: EventKind<R, M>>(
-    concern: Concern,
+    scope: WakeScope,
     ran: bool,
     runs: bool,
     happened: bool,
     answer: &E::Answer,
 ) -> bool
     ensures { (left : E.Left) → happened ≡ is_event (E.answered answer.now left)
-        → result ≡ wakes concern ran runs (E.answered answer.now left) }
+        → result ≡ wakes scope ran runs (E.answered answer.now left) }
 {
     happened
-        && match concern {
-            Concern::Nobody => false,
-            Concern::Seats => E::changes_seats(answer),
-            Concern::ScanBy(_) => ran && !runs,
-            Concern::Scan => E::may_be_over(answer),
+        && match scope {
+            WakeScope::Nobody => false,
+            WakeScope::Seats => E::changes_seats(answer),
+            WakeScope::ScanBy(_) => ran && !runs,
+            WakeScope::Scan => E::may_be_over(answer),
         }
 }
 

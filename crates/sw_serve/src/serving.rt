@@ -400,7 +400,7 @@ fn attend<
     connection: C,
 ) -> Option<Ended<SharedDesk<H, R, M, G, W>, C::In, C::Out, C::Aside>>
     ensures { IfSome result (λ ended. (desk : _)
-        × RunsSession (λ before entry after. DeskPasses H.first H.over H.deserted
+        × RunsSession (λ before entry after. DeskPasses H.first H.over H.client_gone
         (desk_seen before.part before.serves) entry (desk_seen after.part after.serves))
         (mishaps C.In.ByteSource C.Out.Sink C.Aside.Sink H.refused ended.reader ended.writer ended.aside) turns
         (connection_seen desk (C.input connection) (C.pauses connection) (C.output connection))

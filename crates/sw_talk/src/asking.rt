@@ -234,7 +234,7 @@ fn settle_into<D: Desk>(desk: &mut D, sid: Sid, ask: SessionAsk, answer: &mut Se
 {
     desk.ask_into(ask, answer);
     if let SessionAnswer::Hold(_) = answer {
-        outlast(desk, sid, answer);
+        retry_held(desk, sid, answer);
     }
 }
 
@@ -251,18 +251,18 @@ fn settle_unit<D: Desk>(
 {
     desk.ask_unit(sid, command, answered, answer);
     if let SessionAnswer::Hold(_) = answer {
-        outlast(desk, sid, answer);
+        retry_held(desk, sid, answer);
     }
 }
 
 /// Waits out an ask that is held, and puts its outcome in the place of its answer.
 #[inline(never)]
-fn outlast<D: Desk>(desk: &mut D, sid: Sid, answer: &mut SessionAnswer)
+fn retry_held<D: Desk>(desk: &mut D, sid: Sid, answer: &mut SessionAnswer)
     ensures { (ask : SessionAsk) → answer.old ≡ Hold ask → Led D.passes desk.old desk.new (λ t rest.
         Settles sid 0 ask (Asked ask (Hold ask) ∷ t) answer.new rest) }
 {
     match replace(answer, SessionAnswer::Stranger) {
-        SessionAnswer::Hold(held) => put(wait_out(desk, sid, held), answer),
+        SessionAnswer::Hold(held) => put(retry_until_free(desk, sid, held), answer),
         told => put(told, answer),
     }
 }
@@ -278,7 +278,7 @@ pub fn put(told: SessionAnswer, answer: &mut SessionAnswer)
 /// Waits until an ask that the desk held once is no longer held. After each wait it makes the ask again, unless the
 /// desk says that it still holds it.
 #[inline(never)]
-fn wait_out<D: Desk>(desk: &mut D, sid: Sid, held: SessionAsk) -> SessionAnswer
+fn retry_until_free<D: Desk>(desk: &mut D, sid: Sid, held: SessionAsk) -> SessionAnswer
     ensures { Led D.passes desk.old desk.new (λ t rest.
         Settles sid 0 held (Asked held (Hold held) ∷ t) result rest) }
 {

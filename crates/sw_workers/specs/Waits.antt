@@ -7,8 +7,8 @@ use Rattle.sw_core.specs.declared.ask.SessionAnswer.{SessionAnswer}
 use Rattle.sw_core.specs.declared.ask.SessionAnswer.TheVariants.{Hold, Joined}
 use Rattle.sw_connections.specs.Limits.{at_most}
 use Rattle.sw_connections.specs.declared.limits.Limit.{Limit}
-use Rattle.sw_workers.specs.declared.desk.Rest.{Rest}
-use Rattle.sw_workers.specs.declared.desk.Rest.TheVariants.{Again, Over, Deserted}
+use Rattle.sw_workers.specs.declared.desk.WaitEnd.{WaitEnd}
+use Rattle.sw_workers.specs.declared.desk.WaitEnd.TheVariants.{Again, Over, ClientGone}
 use Rattle.sw_workers.specs.declared.shared.Woken.{Woken}
 use Rattle.sw_workers.specs.declared.shared.Woken.TheVariants.{Turned, Unchanged, Closing}
 
@@ -23,10 +23,10 @@ MayEnd ended None = ended
 MayEnd ended (Some ms) = Unit {0}
 
 -- A wait is over by itself, or because the desk found its client gone.
-abbrev pub MayRest : (ended gone : Type 0) → (limit : Option ℕ) → Rest → Type 0
+abbrev pub MayRest : (ended gone : Type 0) → (limit : Option ℕ) → WaitEnd → Type 0
 MayRest ended gone limit Over = MayEnd ended limit
 MayRest ended gone limit (Again left) = Unit {0}
-MayRest ended gone limit Deserted = gone
+MayRest ended gone limit ClientGone = gone
 
 -- what a wait reports to be left of a limit of this many milliseconds: never more than that
 abbrev pub told_left : Option ℕ → Option Limit → Option ℕ

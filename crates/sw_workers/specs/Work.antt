@@ -158,13 +158,13 @@ pub record LeavesServed (start : Panel) (old new : DeskSeen) : Type 0 where
   pub serves : new.serves ≡ serves_after old.serves (Ask.Leave sid) answer
 
 -- where the desk serves no session, it leaves none
-abbrev pub Deserts : Panel → DeskSeen → DeskSeen → Type 0
-Deserts start old new = ((old.serves ≡ None) × (new ≡ old)) ⊎ LeavesServed start old new
+abbrev pub LeavesGoneClient : Panel → DeskSeen → DeskSeen → Type 0
+LeavesGoneClient start old new = ((old.serves ≡ None) × (new ≡ old)) ⊎ LeavesServed start old new
 
 -- A wait that is over by itself changes nothing. One that found its client gone leaves the session that the desk
 -- serves.
 abbrev pub Rests : Panel → (ended gone : Type 0) → (limit : Option ℕ) → Wake → DeskSeen → DeskSeen → Type 0
-Rests start ended gone limit Over old new = (MayEnd ended limit × (new ≡ old)) ⊎ (gone × Deserts start old new)
+Rests start ended gone limit Over old new = (MayEnd ended limit × (new ≡ old)) ⊎ (gone × LeavesGoneClient start old new)
 Rests start ended gone limit (Again left) old new = new ≡ old
 
 -- What a desk of a mainframe that opened so counts and knows after each entry, where the mainframe's end has begun and

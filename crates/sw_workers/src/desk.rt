@@ -7,9 +7,9 @@ ghost use Rattle.sw_talk.specs.Trace.{LeavesOf};
 ghost use Rattle.sw_history.specs.Opened.{OpensAll};
 ghost use Rattle.sw_workers.specs.Waits.{MayRest, limit_after, is_leave, serving_after, told_left};
 ghost use Rattle.sw_history.specs.Asks.{AsksOnce};
-ghost use Rattle.sw_workers.specs.Work.{Brings, SeesToWork, EndsPiece, Deserts, desk_seen, IsRested, Works};
+ghost use Rattle.sw_workers.specs.Work.{Brings, SeesToWork, EndsPiece, LeavesGoneClient, desk_seen, IsRested, Works};
 ghost use Rattle.sw_workers.specs.Work.{none_own};
-ghost use Rattle.sw_workers.specs.declared.desk.Rest.TheVariants.{Deserted};
+ghost use Rattle.sw_workers.specs.declared.desk.WaitEnd.TheVariants.{ClientGone};
 
 use crate::gate::{Gate, Point};
 use crate::mainframe::Mainframe;
@@ -66,13 +66,13 @@ fn serving_after(serves: Option<Sid>, leaves: bool, answer: &SessionAnswer) -> O
 }
 
 /// How a thread's wait ends.
-enum Rest {
+enum WaitEnd {
     /// The session may ask again. This much of the limit is left.
     Again(Option<Limit>),
     /// The wait is over.
     Over,
     /// The client has ended its connection.
-    Deserted,
+    ClientGone,
 }
 
 /// The limit as it is now, if there is one.
@@ -291,50 +291,50 @@ impl<H: Mainframe, R: Relay, M: Meter, G: Gate + Drop, W: Wait + Clock + Copy + 
 
     /// Waits, for `limit_ms` milliseconds at most where there is a limit. A limit that the caller gives as the last
     /// wait left it continues.
-    fn rest_for(&self, limit_ms: Option<u32>) -> Rest
-        ensures { MayRest H.over H.deserted limit_ms result }
+    fn wait_limited(&self, limit_ms: Option<u32>) -> WaitEnd
+        ensures { MayRest H.over H.client_gone limit_ms result }
     {
         let Some(ms) = limit_ms else {
-            return self.rest(None);
+            return self.wait_noted(None);
         };
         let limit = match self.limit {
             Some(limit) if limit.left_ms() == ms => Some(limit),
             _ => Limit::new(&self.rt, ms),
         };
         match limit {
-            Some(limit) => self.rest(Some(limit)),
-            None => Rest::Over,
+            Some(limit) => self.wait_noted(Some(limit)),
+            None => WaitEnd::Over,
         }
     }
 
     /// Waits until the mainframe's turn is another, the limit is over, or the client has ended its connection. The
     /// session's other thread sees that it waits.
-    fn rest(&self, limit: Option<Limit>) -> Rest
-        ensures over { limit ≡ None → MayRest H.over H.deserted None result }
-        ensures gone { result ≡ Deserted → H.deserted }
+    fn wait_noted(&self, limit: Option<Limit>) -> WaitEnd
+        ensures over { limit ≡ None → MayRest H.over H.client_gone None result }
+        ensures gone { result ≡ ClientGone → H.client_gone }
     {
         self.serving.note_wait(&self.rt, true);
-        let rest = self.rest_on(limit);
+        let end = self.wait_on(limit);
         self.serving.note_wait(&self.rt, false);
-        rest
+        end
     }
 
     /// Waits, and looks again and again whether the client has ended its connection.
-    fn rest_on(&self, limit: Option<Limit>) -> Rest
-        ensures over { limit ≡ None → MayRest H.over H.deserted None result }
-        ensures gone { result ≡ Deserted → H.deserted }
+    fn wait_on(&self, limit: Option<Limit>) -> WaitEnd
+        ensures over { limit ≡ None → MayRest H.over H.client_gone None result }
+        ensures gone { result ≡ ClientGone → H.client_gone }
     {
         let rt = self.rt;
         for _ in rt.forever() {
             let limit = at_present(&rt, limit);
             let left = told_ms(limit);
             if left == Some(0) {
-                return Rest::Over;
+                return WaitEnd::Over;
             }
             match self.shared.wait(&rt, self.seen, slice_of(left)) {
-                Woken::Turned => return Rest::Again(at_present(&rt, limit)),
-                Woken::Closing => return Rest::Over,
-                Woken::Unchanged if self.serving.is_deserted(&rt) => return Rest::Deserted,
+                Woken::Turned => return WaitEnd::Again(at_present(&rt, limit)),
+                Woken::Closing => return WaitEnd::Over,
+                Woken::Unchanged if self.serving.is_client_gone(&rt) => return WaitEnd::ClientGone,
                 Woken::Unchanged => {}
             }
         }
@@ -342,8 +342,8 @@ impl<H: Mainframe, R: Relay, M: Meter, G: Gate + Drop, W: Wait + Clock + Copy + 
     }
 
     /// Leaves the session that the desk serves, if there is one.
-    fn desert(&mut self)
-        ensures { Deserts H.first (desk_seen self.old.part self.old.serves) (desk_seen self.new.part self.new.serves) }
+    fn leave_gone_client(&mut self)
+        ensures { LeavesGoneClient H.first (desk_seen self.old.part self.old.serves) (desk_seen self.new.part self.new.serves) }
     {
         let Some(sid) = self.serves else {
             return;
@@ -374,7 +374,7 @@ impl<H: Mainframe, R: Relay, M: Meter, G: Gate + Drop, W: Wait + Clock + Copy + 
     for SharedDesk<H, R, M, G, W> {
     ghost use Rattle.sw_workers.specs.Work.{DeskPasses, desk_seen};
 
-    ghost passes = { λ before entry after. DeskPasses H.first H.over H.deserted (desk_seen before.part before.serves)
+    ghost passes = { λ before entry after. DeskPasses H.first H.over H.client_gone (desk_seen before.part before.serves)
         entry (desk_seen after.part after.serves) };
 
     fn ask(&mut self, ask: SessionAsk) -> SessionAnswer {
@@ -397,18 +397,18 @@ impl<H: Mainframe, R: Relay, M: Meter, G: Gate + Drop, W: Wait + Clock + Copy + 
     }
 
     fn wait(&mut self, limit_ms: Option<u32>) -> Wake {
-        match self.rest_for(limit_ms) {
-            Rest::Again(limit) => {
+        match self.wait_limited(limit_ms) {
+            WaitEnd::Again(limit) => {
                 self.limit = limit;
                 Wake::Again(left_ms(limit_ms, limit))
             }
-            Rest::Over => {
+            WaitEnd::Over => {
                 self.limit = None;
                 Wake::Over
             }
-            Rest::Deserted => {
+            WaitEnd::ClientGone => {
                 self.limit = None;
-                self.desert();
+                self.leave_gone_client();
                 Wake::Over
             }
         }

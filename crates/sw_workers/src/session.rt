@@ -93,7 +93,7 @@ pub fn run_session<
     desk: SharedDesk<H, R, M, G, W>,
     alloc: Global,
 ) -> Ended<SharedDesk<H, R, M, G, W>, C::In, C::Out, C::Aside>
-    ensures { RunsSession (λ before entry after. DeskPasses H.first H.over H.deserted
+    ensures { RunsSession (λ before entry after. DeskPasses H.first H.over H.client_gone
         (desk_seen before.part before.serves) entry (desk_seen after.part after.serves))
         (mishaps C.In.ByteSource C.Out.Sink C.Aside.Sink H.refused result.reader result.writer result.aside) turns
         (connection_seen desk (C.input connection) (C.pauses connection) (C.output connection))

@@ -9,7 +9,7 @@ returns-in-Hold g c =
     let passes = g.D.Desk.passes in
     let back = subst (λ (x : SessionAnswer). HandsBackAsk c.args.ask x) c.in-Hold.is c.ask_into.ensures.back in
     let passed = subst (λ (x : SessionAnswer). passes c.args.desk.now (Asked c.args.ask x) c.ask_into.new.self) c.in-Hold.is c.ask_into.ensures.passes in
-    settle-held passes _ _ _ c.args.sid c.args.ask _ _ back passed (c.outlast.ensures _ c.in-Hold.is)
+    settle-held passes _ _ _ c.args.sid c.args.ask _ _ back passed (c.retry_held.ensures _ c.in-Hold.is)
 
 pub returns-in_default : goal.returns-in_default
 returns-in_default g c = settle-first g.D.Desk.passes _ _ c.args.sid c.args.ask _ c.in_default.not-Hold c.ask_into.ensures.passes

@@ -11,7 +11,7 @@ returns-in-Hold g c =
     let ask = Unit c.args.sid c.args.command c.args.answered in
     let back = subst (λ (x : SessionAnswer). HandsBackAsk ask x) c.in-Hold.is c.ask_unit.ensures.back in
     let passed = subst (λ (x : SessionAnswer). passes c.args.desk.now (Asked ask x) c.ask_unit.new.self) c.in-Hold.is c.ask_unit.ensures.passes in
-    settle-held passes _ _ _ c.args.sid ask _ _ back passed (c.outlast.ensures _ c.in-Hold.is)
+    settle-held passes _ _ _ c.args.sid ask _ _ back passed (c.retry_held.ensures _ c.in-Hold.is)
 
 pub returns-in_default : goal.returns-in_default
 returns-in_default g c =

@@ -11,9 +11,9 @@ invariant_of-self g c =
     let p = c.self.inside.pass.me in
     let v = c.desk.inside.seat.me.0 in
     let said = g.T.Telling.said in
-    let put = put_on said p.0 v p c.ride.new.pass.me c.put.new.pass.me c.ride.ensures.pass c.put.ensures.pass in
-    let all = pass_after (written p.0 v said) p c.put.new.pass.me c.land.new.pass.me put c.land.ensures.pass in (
-      c.land.ensures.same.0 ∙ (c.put.ensures.same ∙ (c.ride.ensures.same.0 ∙ i.0)),
+    let put = put_on said p.0 v p c.attach_desk.new.pass.me c.put.new.pass.me c.attach_desk.ensures.pass c.put.ensures.pass in
+    let all = pass_after (written p.0 v said) p c.put.new.pass.me c.detach_desk.new.pass.me put c.detach_desk.ensures.pass in (
+      c.detach_desk.ensures.same.0 ∙ (c.put.ensures.same ∙ (c.attach_desk.ensures.same.0 ∙ i.0)),
       ap (λ m. m.1) all ∙ i.1,
       ap (λ m. m.0.live) all ∙ i.2,
       ap (λ m. m.0.opening) all ∙ i.3,
@@ -28,7 +28,7 @@ returns-clause-own g c d is =
     let p = c.self.inside.pass.me in
     let v = c.desk.inside.seat.me in
     let said = g.T.Telling.said in
-    let put = put_on said p.0 v.0 p c.ride.new.pass.me c.put.new.pass.me c.ride.ensures.pass c.put.ensures.pass in
-    let all = desk_after (written p.0 v.0 said) p c.put.new.pass.me c.ride.new.desk.me c.land.new.desk.me put c.land.ensures.desk in
+    let put = put_on said p.0 v.0 p c.attach_desk.new.pass.me c.put.new.pass.me c.attach_desk.ensures.pass c.put.ensures.pass in
+    let all = desk_after (written p.0 v.0 said) p c.put.new.pass.me c.attach_desk.new.desk.me c.detach_desk.new.desk.me put c.detach_desk.ensures.desk in
     let there : v.0.desk ≡ Some d = sym (ap (λ m. m.0.desk) all) ∙ is in
-    ap (λ m. made_by d m.0.seen) all ∙ (own_after said p.0 v.0 d there (c.ride.ensures.own d there) ∙ sym (ap (λ m. m.0.mine) all))
+    ap (λ m. made_by d m.0.seen) all ∙ (own_after said p.0 v.0 d there (c.attach_desk.ensures.own d there) ∙ sym (ap (λ m. m.0.mine) all))

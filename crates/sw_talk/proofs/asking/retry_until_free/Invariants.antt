@@ -1,7 +1,7 @@
 use Rattle.std.proofs.Common.{◌≡◌}
 use Rattle.sw_talk.specs.Trace.{Led}
 use Rattle.sw_talk.proofs.TalksLemmas.{SettlesBy}
-use Rattle.sw_talk.proofs.asking.wait_out.Given as goal
+use Rattle.sw_talk.proofs.asking.retry_until_free.Given as goal
 
 abbrev pub invariant-loop-turn : goal.invariant-loop-turn
 invariant-loop-turn g l = record {

@@ -1,8 +1,8 @@
 use Rattle.std.proofs.Common.{arith, refl, ◌∙◌, inl, inr}
 use Rattle.sw_talk.specs.declared.desk.Wake.TheVariants.{Over}
 use Rattle.sw_talk.proofs.TalksLemmas.{settle-start, settle-again, settle-told, settle-end}
-use Rattle.sw_talk.proofs.asking.wait_out.Goals.{then-not-holds+in-Hold, else-not-holds}
-use Rattle.sw_talk.proofs.asking.wait_out.Goals as goal
+use Rattle.sw_talk.proofs.asking.retry_until_free.Goals.{then-not-holds+in-Hold, else-not-holds}
+use Rattle.sw_talk.proofs.asking.retry_until_free.Goals as goal
 
 pub loop-turn-init : goal.loop-turn-init
 loop-turn-init g c = record { same = refl; led = settle-start g.D.Desk.passes _ c.args.sid c.args.held }

@@ -1,6 +1,6 @@
 use Rattle.std.proofs.Common.{◌∙◌, ap, arith}
 use Rattle.sw_history.proofs.BoardMovesLemmas.{reads, rides_off, rides_on}
-use Rattle.sw_history.proofs.seat.ride.Goals as goal
+use Rattle.sw_history.proofs.seat.attach_desk.Goals as goal
 
 pub split_seat-lent-requires : goal.split_seat-lent-requires
 split_seat-lent-requires c =

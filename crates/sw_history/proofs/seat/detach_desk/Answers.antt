@@ -1,6 +1,6 @@
 use Rattle.std.proofs.Common.{◌∙◌, ap, arith}
 use Rattle.sw_history.proofs.BoardMovesLemmas.{rides_off, rides_back}
-use Rattle.sw_history.proofs.seat.land.Goals as goal
+use Rattle.sw_history.proofs.seat.detach_desk.Goals as goal
 
 pub split_seat-lent-requires : goal.split_seat-lent-requires
 split_seat-lent-requires c =
