@@ -7,8 +7,8 @@ ghost use Rattle.sw_history.specs.Board.{first_seat, pair_in, Saw, entry_of, pub
 ghost use Rattle.sw_history.specs.Board.{reader, new_desk, without_desk, of_desk, desk_taken_over};
 
 use crate::board::{
-    BoardName, Compares, CopySeat, NewDesk, LendDesk, Publishes, RawSeat, Reads, ReturnDesk, StatusBoard,
-    Steps, Telling, word_of,
+    BoardName, Compares, CopySeat, LendDesk, NewDesk, Publishes, RawSeat, Reads, ReturnDesk,
+    StatusBoard, Steps, Telling, word_of,
 };
 use std::marker::{Model, PhantomData};
 
@@ -63,7 +63,10 @@ impl<B: BoardName> StatusSeat<B> {
         ensures desk { (self.new.desk ≡ self.old.desk) × (self.new.mine ≡ self.old.mine) }
     {
         let StatusSeat { seat, of: _ } = other;
-        board.table.shared.join_seat::<CopySeat>(&mut self.seat, seat);
+        board
+            .table
+            .shared
+            .join_seat::<CopySeat>(&mut self.seat, seat);
         board.table.shared.load::<Compares>(&mut self.seat, 0);
     }
 }
