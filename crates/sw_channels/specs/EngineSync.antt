@@ -23,7 +23,8 @@ use Rattle.sw_channels.specs.declared.step.Sent.{Sent}
 use Rattle.sw_channels.specs.declared.synchronous.Delivery.{Delivery}
 use Rattle.sw_channels.specs.Said.{StepSeen}
 use Rattle.sw_channels.specs.EngineKinds.{sync_request}
-use Rattle.sw_channels.specs.EngineMessages.{plain, error_message, welcome, IsSubAddress, IsCut, room_of, tells_delivery}
+use Rattle.sw_channels.specs.EngineMessages.{plain, error_message, welcome, IsSubAddress, IsCut, room_of}
+use Rattle.sw_channels.specs.EngineMessages.{tells_delivery}
 use Rattle.sw_channels.specs.EngineStep.{on, goes, reply_step, over, says, fails, joined, Unasked, is_gone}
 use Rattle.sw_base.specs.Limits.{most_kept}
 use Rattle.sw_talk.specs.Talk.{TalksMessage, Settles, Queues, is_done}

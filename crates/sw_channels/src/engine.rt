@@ -1,8 +1,8 @@
 //! The engine of one channel: which channel of which session it is, from the first message on.
 
 ghost use Rattle.std.specs.Prelude.{◌≡◌, ◌≤◌, [], true, false, IfOk, OnErr, OnOk, vec_capacity};
-ghost use Rattle.sw_channels.specs.Engine.{fresh_engine, TakesMessage, session_of, Falters, FaltersAt, too_large, skips};
-ghost use Rattle.sw_channels.specs.Engine.{notice_from};
+ghost use Rattle.sw_channels.specs.Engine.{fresh_engine, TakesMessage, session_of, Falters, FaltersAt, too_large};
+ghost use Rattle.sw_channels.specs.Engine.{notice_from, skips};
 ghost use Rattle.sw_channels.specs.Engine.{channel_of_state, noticed_from, opened_sync, opened_async};
 ghost use Rattle.sw_channels.specs.EngineSync as EngineSync;
 ghost use Rattle.sw_channels.specs.EngineAsync as EngineAsync;

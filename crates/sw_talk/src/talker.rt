@@ -7,8 +7,8 @@ ghost use Rattle.sw_lex.specs.Unit.{unit_of};
 ghost use Rattle.sw_lex.specs.Meaning.{Nodes, path_of};
 ghost use Rattle.sw_macro.specs.Table.{Table, no_macros};
 ghost use Rattle.sw_talk.specs.Talk.{Talked, TalksLine, OnLine, Itself, Expanded, ServesUnit, ConcludesLine};
-ghost use Rattle.sw_talk.specs.Talk.{state, talker_at, after_unit, lasts_after, is_command_error, TellsAnswered, is_own};
-ghost use Rattle.sw_talk.specs.Talk.{reads_out};
+ghost use Rattle.sw_talk.specs.Talk.{state, talker_at, after_unit, lasts_after, is_command_error, TellsAnswered};
+ghost use Rattle.sw_talk.specs.Talk.{is_own, reads_out};
 
 use crate::asking::{ask_command, carry_out, is_own, queue, reads_out};
 use crate::desk::Desk;
@@ -69,7 +69,8 @@ impl Talker {
         answers
     }
 
-    /// The answers to one program message, as `message` gives them, and whether the session lasts, as `message_into` tells.
+    /// The answers to one program message, as `message` gives them, and whether the session lasts, as `message_into`
+    /// tells.
     pub fn talk_over<D: Desk>(&mut self, text: &[u8], desk: &mut D) -> (Vec<u8>, bool)
         ensures talked { (t : Talked D.passes self.old.sid (state desk.old self.old.macros)
             text.now result.0.items (state desk.new self.new.macros)) × (t.lasts ≡ result.1) }
@@ -89,8 +90,8 @@ impl Talker {
     }
 
     /// Talks over one program message as `message` does, and leaves the answers in `out` in place of what was there.
-    /// Its memory is used again, where it is no more than `KEPT_BYTES`. It is false where the desk has answered that the session
-    /// is being cleared, is joined no more, or that nothing more can be numbered.
+    /// Its memory is used again, where it is no more than `KEPT_BYTES`. It is false where the desk has answered that the
+    /// session is being cleared, is joined no more, or that nothing more can be numbered.
     pub fn message_into<D: Desk>(&mut self, text: &[u8], desk: &mut D, out: &mut Vec<u8>) -> bool
         ensures talked { (t : Talked D.passes self.old.sid (state desk.old self.old.macros)
             text.now out.new.items (state desk.new self.new.macros)) × (t.lasts ≡ result) }

@@ -343,7 +343,8 @@ impl<H: Mainframe, R: Relay, M: Meter, G: Gate + Drop, W: Wait + Clock + Copy + 
 
     /// Leaves the session that the desk serves, if there is one.
     fn leave_gone_client(&mut self)
-        ensures { LeavesGoneClient H.first (desk_seen self.old.part self.old.serves) (desk_seen self.new.part self.new.serves) }
+        ensures { LeavesGoneClient H.first (desk_seen self.old.part self.old.serves)
+            (desk_seen self.new.part self.new.serves) }
     {
         let Some(sid) = self.serves else {
             return;

@@ -56,6 +56,7 @@ impl<H: Mainframe> Halves<H> {
 
     /// Follows an ask by which a session comes or goes, and the session that it joined. It gives the session that the
     /// desk has then, if the ask brought it one. The threads of a new one share this room, if there is one.
+    #[inline(always)]
     pub fn follow(
         &mut self,
         coming: Coming,

@@ -295,7 +295,8 @@ impl<H: Mainframe, R: Relay, M: Meter, G: Gate + Drop> Shared<H, R, M, G> {
         session.leave_seen(rt, part, &self.board);
     }
 
-    /// Looks at the status of a desk's session, or of one that has no message for it. It doesn't wait for the mainframe.
+    /// Looks at the status, as of a desk's session where one is given: only that has messages for the desk. It doesn't
+    /// wait for the mainframe.
     pub fn poll<W: Wait>(
         &self,
         rt: &W,

@@ -145,8 +145,8 @@ impl<
         self.close(rt, alloc, desks)
     }
 
-    /// Opens every relay, closes the mainframe down, and gives the last note before that where the events since are those
-    /// of the opening and its cards come out by slot, with nothing closed.
+    /// Opens every relay, closes the mainframe down, and gives the last note before that where the events since are
+    /// those of the opening and its cards come out by slot, with nothing closed.
     pub fn close(
         self,
         rt: W,
