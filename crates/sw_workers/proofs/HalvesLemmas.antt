@@ -1,14 +1,12 @@
 -- The halves that wait are of sessions that are joined.
-use Rattle.std.proofs.Common.{◌≡◌, ◌≢◌, ◌⊎◌, inl, inr, ℕ, ◌-◌, zero, suc, Bool, true, false, List, [], ◌∷◌, Option, None, Some}
+use Rattle.std.proofs.Common.{◌≡◌, ◌≢◌, inl, inr, ℕ, ◌-◌, zero, suc, Bool, true, false, Option, None, Some}
 use Rattle.std.proofs.Common.{refl, ap, sym, subst, ◌∙◌, slice_set, replicate, if◌then◌else◌}
 use Rattle.std.specs.Prelude.{nat_lt, slice_index_or}
 use Rattle.sw_base.specs.Layout.{slot_at}
 use Rattle.sw_base.specs.Limits.{most_sessions}
 use Rattle.sw_cage.proofs.SlotChangeLemmas.{slot_cases}
 use Rattle.sw_core.specs.declared.ask.Sid.{Sid}
-use Rattle.sw_core.specs.declared.ask.SessionAsk.{SessionAsk}
 use Rattle.sw_core.specs.declared.ask.SessionAsk.TheVariants as Ask
-use Rattle.sw_core.specs.declared.ask.SessionAnswer.{SessionAnswer}
 use Rattle.sw_core.specs.declared.ask.SessionAnswer.TheVariants.{Joined}
 use Rattle.sw_core.specs.Good.{IsGoodPanel}
 use Rattle.sw_core.specs.Panel.{Panel}

@@ -1,6 +1,6 @@
 -- A channel's server from what was heard on.
-use Rattle.std.proofs.Common.{◌≡◌, ◌⊎◌, inl, inr, ℕ, ◌+◌, List, ◌++◌, length, Option, None, Some, Result, Ok, Err, OnOk, OnErr, option_map, ◌∙◌, refl, ap}
-use Rattle.std.proofs.Common.{subst, arith}
+use Rattle.std.proofs.Common.{◌≡◌, ◌⊎◌, inl, inr, ℕ, List, ◌++◌, length, Option, None, Some, Result, Ok, Err, OnOk, OnErr, ◌∙◌, refl}
+use Rattle.std.proofs.Common.{subst}
 use Rattle.std.specs.Io.KnownBytes.{Consumes, IsAtEnd, prepend_known}
 use Rattle.sw_channels.specs.declared.step.Channel.{Channel}
 use Rattle.sw_channels.specs.declared.step.Channel.TheVariants.{Synchronous}
