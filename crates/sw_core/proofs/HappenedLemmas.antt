@@ -57,7 +57,7 @@ happened p h SaysEnded cage s ignored taken takes e = let t : Takes p.cage h = t
 happened p h SaysFault cage s ignored taken takes e = let t : Takes p.cage h = takes (λ (x : SaysFault ≡ SaysIgnored). absurd (cc (x))) in
     (t, taken t, (failed_past p.cage cage SaysFault (taken t), ap (λ (x : StatusSeen). told_panel p cage x) e))
 
-counts_ignored : (p q : CageSeen) (outcome : Result Reading CardFault) → Counts p outcome SaysIgnored q → ⊥
+pub counts_ignored : (p q : CageSeen) (outcome : Result Reading CardFault) → Counts p outcome SaysIgnored q → ⊥
 counts_ignored p q (Ok r) h = never_ignored (with_reading p r) q p.scan h
 counts_ignored p q (Err e) h = absurd (let x : SaysIgnored ≡ SaysFault = h.0 in cc (x))
 

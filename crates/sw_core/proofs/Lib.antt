@@ -4,6 +4,7 @@ mod HardwareLemmas
 mod CallsLemmas
 pub mod AnsweredLemmas
 mod HappenedLemmas
+mod CardsLemmas
 mod NumberedLemmas
 mod BroughtLemmas
 mod SameLemmas

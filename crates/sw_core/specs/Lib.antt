@@ -4,6 +4,7 @@ pub mod Sessions
 pub mod Seats
 pub mod Seen
 pub mod Panel
+pub mod Cards
 pub mod Registers
 pub mod Event
 pub mod Checking

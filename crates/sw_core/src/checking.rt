@@ -18,7 +18,8 @@ impl<R: Relay, M: Meter> Core<R, M> {
     /// Answers why the channels may not be closed now, or `"ok"`.
     #[inline(never)]
     pub(crate) fn check_closing(&self, alloc: Global, chans: &[Chan]) -> SessionAnswer
-        ensures { StepText self.now (check_text chans.now self.now) self.now.status Bool.false result self.now }
+        ensures { StepText self.now.seen (check_text chans.now self.now.seen) self.now.seen.status Bool.false result
+            self.now.seen }
     {
         match self.why_not(alloc, chans) {
             Ok(text) => answered(AnswerText::bytes(text)),
@@ -28,7 +29,7 @@ impl<R: Relay, M: Meter> Core<R, M> {
 
     /// The text of that.
     fn why_not(&self, alloc: Global, chans: &[Chan]) -> Result<Sequence<u8>, ScpiError>
-        ensures { IfOk result (λ text. text ≡ check_text chans.now self.now) }
+        ensures { IfOk result (λ text. text ≡ check_text chans.now self.now.seen) }
     {
         if self.cage.is_running() {
             return quoted(alloc, b"a scan runs", &[]);

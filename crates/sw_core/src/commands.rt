@@ -1,6 +1,8 @@
 //! Commands: what each family does.
 
 ghost use Rattle.std.specs.Prelude.{◌≡◌, ◌&&◌, None, false};
+ghost use Rattle.sw_core.specs.Cards.{KeepsFor};
+ghost use Rattle.sw_cage.specs.Cards.{meters_of};
 ghost use Rattle.sw_cage.specs.Change.{any_failed};
 ghost use Rattle.sw_lex.specs.declared.command.Command.{Command};
 ghost use Rattle.sw_core.specs.Action.{action_of, no_data_action, relay_action, setting_action, awaits_end};
@@ -30,10 +32,11 @@ impl<R: Relay, M: Meter> Core<R, M> {
         available: bool,
         work: &mut Option<Work<M>>,
     ) -> SessionAnswer
-        requires unheld { awaits_end command && is_running self.old ≡ false }
+        requires unheld { awaits_end command && is_running self.old.seen ≡ false }
         requires empty { work.old ≡ None }
-        ensures { (ask : SessionAsk) → StepAction (action_of available command) self.old ask
-            (any_failed self.old.cage.cards self.new.cage.cards) result (work_seen work.new) self.new }
+        ensures step { (ask : SessionAsk) → StepAction (action_of available command) self.old.seen ask
+            (any_failed self.old.seen.cage.cards self.new.seen.cage.cards) result (work_seen work.new) self.new.seen }
+        ensures meters { KeepsFor self.old.cards work.new self.new.cards }
     {
         match command {
             Command::NoData(ask) => self.without_data(alloc, ask, work),
@@ -63,10 +66,11 @@ impl<R: Relay, M: Meter> Core<R, M> {
         ask: NoData,
         work: &mut Option<Work<M>>,
     ) -> SessionAnswer
-        requires unheld { awaits_end (Command.NoData ask) && is_running self.old ≡ false }
+        requires unheld { awaits_end (Command.NoData ask) && is_running self.old.seen ≡ false }
         requires empty { work.old ≡ None }
-        ensures { (asked : SessionAsk) → StepAction (no_data_action ask) self.old asked
-            (any_failed self.old.cage.cards self.new.cage.cards) result (work_seen work.new) self.new }
+        ensures step { (asked : SessionAsk) → StepAction (no_data_action ask) self.old.seen asked
+            (any_failed self.old.seen.cage.cards self.new.seen.cage.cards) result (work_seen work.new) self.new.seen }
+        ensures meters { KeepsFor self.old.cards work.new self.new.cards }
     {
         match ask {
             NoData::Reset => self.reset(),
@@ -88,8 +92,9 @@ impl<R: Relay, M: Meter> Core<R, M> {
     #[tactic(auto, using(crate::proofs::CallsLemmas::failed_same))]
     #[inline(always)]
     fn relays(&mut self, alloc: Global, ask: RelayCommand, chans: &[Chan]) -> SessionAnswer
-        ensures { (asked : SessionAsk) → StepAction (relay_action ask chans.now) self.old asked
-            (any_failed self.old.cage.cards self.new.cage.cards) result None self.new }
+        ensures step { (asked : SessionAsk) → StepAction (relay_action ask chans.now) self.old.seen asked
+            (any_failed self.old.seen.cage.cards self.new.seen.cage.cards) result None self.new.seen }
+        ensures meters { meters_of self.new.cards ≡ meters_of self.old.cards }
     {
         match ask {
             RelayCommand::Close | RelayCommand::Open if self.cage.is_running() => conflict(),
@@ -105,8 +110,9 @@ impl<R: Relay, M: Meter> Core<R, M> {
     #[tactic(auto, using(crate::proofs::CallsLemmas::failed_same))]
     #[inline(always)]
     fn set(&mut self, setting: Setting) -> SessionAnswer
-        ensures { (ask : SessionAsk) → StepAction (setting_action setting) self.old ask
-            (any_failed self.old.cage.cards self.new.cage.cards) result None self.new }
+        ensures step { (ask : SessionAsk) → StepAction (setting_action setting) self.old.seen ask
+            (any_failed self.old.seen.cage.cards self.new.seen.cage.cards) result None self.new.seen }
+        ensures cards { self.new.cards ≡ self.old.cards }
     {
         if self.cage.is_running() {
             return conflict();

@@ -42,7 +42,8 @@ fn waiting_bits(name: LayerName) -> u16
 impl<R: Relay, M: Meter> Core<R, M> {
     /// Queues the error of a refusal, and ends the event. An ask that was no event changes nothing.
     pub(crate) fn end_event(&mut self, answer: &Answer<R, M>)
-        ensures { self.new ≡ concluded (answer_seen answer.now) self.old }
+        ensures ended { self.new.seen ≡ concluded (answer_seen answer.now) self.old.seen }
+        ensures cards { self.new.cards ≡ self.old.cards }
     {
         match answer {
             Answer::Session(answer, _) => self.end_session_event(answer),
@@ -57,7 +58,8 @@ impl<R: Relay, M: Meter> Core<R, M> {
 
     /// Queues the error of a session's refusal, and ends the event.
     pub(crate) fn end_session_event(&mut self, answer: &SessionAnswer)
-        ensures { self.new ≡ session_concluded answer.now self.old }
+        ensures ended { self.new.seen ≡ session_concluded answer.now self.old.seen }
+        ensures cards { self.new.cards ≡ self.old.cards }
     {
         match answer {
             SessionAnswer::Stranger
@@ -73,7 +75,8 @@ impl<R: Relay, M: Meter> Core<R, M> {
     /// `*OPC` completes where no scan runs, OPERation shows what the scan awaits, a service request arises or not, and
     /// the mainframe counts the event.
     pub(crate) fn count_event(&mut self)
-        ensures { self.new ≡ ended self.old }
+        ensures ended { self.new.seen ≡ ended self.old.seen }
+        ensures cards { self.new.cards ≡ self.old.cards }
     {
         let running = self.cage.is_running();
         if self.opc_waits && !running {
@@ -88,7 +91,7 @@ impl<R: Relay, M: Meter> Core<R, M> {
 
     /// OPERation's condition by the scan that runs, if any.
     fn scan_bits(&self) -> u16
-        ensures { result ≡ scan_bits self.now.cage.scan }
+        ensures { result ≡ scan_bits self.now.seen.cage.scan }
     {
         match self.cage.awaited() {
             Some(Awaited::Read) => MEASURING,

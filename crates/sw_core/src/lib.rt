@@ -3,9 +3,10 @@
 //! The crate's contract to the layers above: `Core::apply`, and `ask`, which does its part for a session's ask and
 //! answers where the caller looks, act as the relation `Step` of `specs/Step.antt` says, with one line for each legal
 //! pair of ask and answer; `come_back` and `elapse` do its part for a meter's return and the end of a pause, and leave
-//! the next work where the caller looks; `Core::holds` says that a step would change nothing. Over every run of such
-//! steps no absent channel is closed and no two closed channels clash, and a scan does a prefix of its plan's agenda
-//! and ends; the laws in `laws.rt` say so, and what closing, opening, refusing, failing and ejecting do.
+//! the next work where the caller looks, and cards stay the very ones as `specs/Cards.antt` says; `Core::holds` says
+//! that a step would change nothing. Over every run of such steps no absent channel is closed and no two closed
+//! channels clash, and a scan does a prefix of its plan's agenda and ends; the laws in `laws.rt` say so, and what
+//! closing, opening, refusing, failing and ejecting do.
 //!
 //! It does not promise that memory is there, nor what a relay really does: of that it has only the card's word.
 #![tactic(auto)]

@@ -19,7 +19,7 @@ impl<R: Relay, M: Meter> Core<R, M> {
     /// Answers the check of this listing with the cards that are there, the channels that are closed and TRACe:POINts.
     #[inline(never)]
     pub(crate) fn check_listing(&self, alloc: Global, listing: &[u8]) -> SessionAnswer
-        ensures { StepListing self.now listing.now Bool.false result self.now }
+        ensures { StepListing self.now.seen listing.now Bool.false result self.now.seen }
     {
         match self.listing_check(alloc, listing) {
             Ok(text) => answered(AnswerText::bytes(text)),
@@ -29,7 +29,7 @@ impl<R: Relay, M: Meter> Core<R, M> {
 
     /// The text of that.
     fn listing_check(&self, alloc: Global, listing: &[u8]) -> Result<Sequence<u8>, AllocError>
-        ensures { IfOk result (λ text. IsListingTold self.now listing.now text) }
+        ensures { IfOk result (λ text. IsListingTold self.now.seen listing.now text) }
     {
         let layout = self.cage.layout(alloc)?;
         let closed = self.cage.closed_chans(alloc)?;

@@ -31,7 +31,8 @@ impl<R: Relay, M: Meter> Core<R, M> {
     /// Answers a query; `available` says whether its message has answered before, so that a message is available.
     #[inline(always)]
     pub(crate) fn tell(&self, alloc: Global, query: PlainQuery, available: bool) -> SessionAnswer
-        ensures { StepText self.now (query_text available query self.now) self.now.status Bool.false result self.now }
+        ensures { StepText self.now.seen (query_text available query self.now.seen) self.now.seen.status Bool.false
+            result self.now.seen }
     {
         match query {
             PlainQuery::Identify => answered(identity()),
@@ -59,8 +60,8 @@ impl<R: Relay, M: Meter> Core<R, M> {
     /// Answers a query of a layer.
     #[inline(always)]
     pub(crate) fn tell_layer(&self, query: LayerQuery, layer: LayerName) -> SessionAnswer
-        ensures { StepText self.now (layer_text query (layer_of self.now.settings.scan layer)) self.now.status
-            Bool.false result self.now }
+        ensures { StepText self.now.seen (layer_text query (layer_of self.now.seen.settings.scan layer))
+            self.now.seen.status Bool.false result self.now.seen }
     {
         let layer = self.settings.scan.layer(layer);
         match query {
@@ -74,8 +75,8 @@ impl<R: Relay, M: Meter> Core<R, M> {
     /// Answers a query of a status group. The condition of QUEStionable alone asks the cards.
     #[inline(always)]
     pub(crate) fn tell_group(&self, query: GroupQuery, group: StatusGroup) -> SessionAnswer
-        ensures { (ask : SessionAsk) → StepAction (group_action query group) self.now ask Bool.false result None
-            self.now }
+        ensures { (ask : SessionAsk) → StepAction (group_action query group) self.now.seen ask Bool.false result None
+            self.now.seen }
     {
         let registers = self.status.group(group);
         let bits = match query {
@@ -90,8 +91,8 @@ impl<R: Relay, M: Meter> Core<R, M> {
     /// The condition of a status group.
     #[inline(always)]
     fn condition(&self, group: StatusGroup) -> SessionAnswer
-        ensures { (ask : SessionAsk) → StepAction (group_action Condition group) self.now ask Bool.false result None
-            self.now }
+        ensures { (ask : SessionAsk) → StepAction (group_action Condition group) self.now.seen ask Bool.false result
+            None self.now.seen }
     {
         match group {
             StatusGroup::Operation => self.number(u64::from(self.status.group(group).condition())),
@@ -102,7 +103,7 @@ impl<R: Relay, M: Meter> Core<R, M> {
     /// The condition of QUEStionable, with bit 9 too while a card is unsure of its relays.
     #[inline(never)]
     fn questionable(&self) -> SessionAnswer
-        ensures { StepSurety self.now (condition_text self.now) Bool.false result self.now }
+        ensures { StepSurety self.now.seen (condition_text self.now.seen) Bool.false result self.now.seen }
     {
         let bits = self.status.group(StatusGroup::Questionable).condition();
         answered(AnswerText::number(u64::from(condition_told(bits, &self.cage))))
@@ -111,7 +112,7 @@ impl<R: Relay, M: Meter> Core<R, M> {
     /// A number as an answer.
     #[inline(always)]
     pub(crate) fn number(&self, n: u64) -> SessionAnswer
-        ensures { StepText self.now (decimal n) self.now.status Bool.false result self.now }
+        ensures { StepText self.now.seen (decimal n) self.now.seen.status Bool.false result self.now.seen }
     {
         answered(AnswerText::number(n))
     }
@@ -119,8 +120,8 @@ impl<R: Relay, M: Meter> Core<R, M> {
     /// The channels of the scan.
     #[inline(never)]
     fn scan_query(&self, alloc: Global) -> SessionAnswer
-        ensures { StepText self.now (printed_positions self.now.settings.scan.list) self.now.status Bool.false result
-            self.now }
+        ensures { StepText self.now.seen (printed_positions self.now.seen.settings.scan.list) self.now.seen.status
+            Bool.false result self.now.seen }
     {
         match print_positions(alloc, self.settings.scan.list()) {
             Ok(text) => answered(AnswerText::bytes(Sequence::new(text))),
@@ -130,8 +131,8 @@ impl<R: Relay, M: Meter> Core<R, M> {
 
     /// Whether INITiate runs a program.
     fn programmed_query(&self) -> SessionAnswer
-        ensures { StepText self.now (programmed_text self.now.settings.program) self.now.status Bool.false result
-            self.now }
+        ensures { StepText self.now.seen (programmed_text self.now.seen.settings.program) self.now.seen.status
+            Bool.false result self.now.seen }
     {
         if self.settings.is_programmed() {
             self.number(1)
@@ -143,8 +144,8 @@ impl<R: Relay, M: Meter> Core<R, M> {
     /// The program as a listing in a block; an empty one for none.
     #[inline(never)]
     fn program_query(&self, alloc: Global) -> SessionAnswer
-        ensures { StepText self.now (program_text (kept self.now.settings.program)) self.now.status Bool.false result
-            self.now }
+        ensures { StepText self.now.seen (program_text (kept self.now.seen.settings.program)) self.now.seen.status
+            Bool.false result self.now.seen }
     {
         let Some(program) = self.settings.program.kept() else {
             return answered(AnswerText::fixed(b"#10"));
@@ -158,7 +159,8 @@ impl<R: Relay, M: Meter> Core<R, M> {
     /// The readings of the scan with this number, where it made exactly this count of them and no scan began since.
     #[inline(never)]
     pub(crate) fn scan_readings(&self, alloc: Global, number: u64, count: u64) -> SessionAnswer
-        ensures { StepReadings (readings_of_scan number count self.now) self.now Bool.false result self.now }
+        ensures { StepReadings (readings_of_scan number count self.now.seen) self.now.seen Bool.false result
+            self.now.seen }
     {
         if self.cage.number() == number && self.cage.readings().len() as u64 == count {
             self.fetch(alloc)
@@ -171,7 +173,7 @@ impl<R: Relay, M: Meter> Core<R, M> {
     /// for it.
     #[inline(never)]
     pub(crate) fn fetch(&self, alloc: Global) -> SessionAnswer
-        ensures { StepReadings self.now.cage.readings self.now Bool.false result self.now }
+        ensures { StepReadings self.now.seen.cage.readings self.now.seen Bool.false result self.now.seen }
     {
         let readings = self.cage.readings();
         if readings.is_empty() {

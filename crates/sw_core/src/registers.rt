@@ -64,8 +64,9 @@ impl<R: Relay, M: Meter> Core<R, M> {
     /// Answers what a query reads out of the status, and takes that out.
     #[inline(always)]
     pub(crate) fn read_out(&mut self, alloc: Global, read: StatusRead) -> SessionAnswer
-        ensures { StepText self.old (read_text read self.old.status) (without_read read self.old.status) Bool.false
-            result self.new }
+        ensures step { StepText self.old.seen (read_text read self.old.seen.status)
+            (without_read read self.old.seen.status) Bool.false result self.new.seen }
+        ensures cards { self.new.cards ≡ self.old.cards }
     {
         match read {
             StatusRead::EventStatus => self.event_query(),
@@ -78,8 +79,9 @@ impl<R: Relay, M: Meter> Core<R, M> {
     /// Reads the event status register out.
     #[inline(always)]
     fn event_query(&mut self) -> SessionAnswer
-        ensures { StepText self.old (decimal self.old.status.esr) (record self.old.status { esr = 0 }) Bool.false result
-            self.new }
+        ensures step { StepText self.old.seen (decimal self.old.seen.status.esr)
+            (record self.old.seen.status { esr = 0 }) Bool.false result self.new.seen }
+        ensures cards { self.new.cards ≡ self.old.cards }
     {
         answered(AnswerText::number(u64::from(self.status.read_esr())))
     }
@@ -87,9 +89,10 @@ impl<R: Relay, M: Meter> Core<R, M> {
     /// Reads a group's event register out.
     #[inline(always)]
     fn group_event_query(&mut self, group: StatusGroup) -> SessionAnswer
-        ensures { StepText self.old (decimal (registers_of self.old.status group).event)
-            (with_group self.old.status group (event_taken (registers_of self.old.status group))) Bool.false result
-            self.new }
+        ensures step { StepText self.old.seen (decimal (registers_of self.old.seen.status group).event)
+            (with_group self.old.seen.status group (event_taken (registers_of self.old.seen.status group))) Bool.false
+            result self.new.seen }
+        ensures cards { self.new.cards ≡ self.old.cards }
     {
         answered(AnswerText::number(u64::from(self.status.take_event(group))))
     }
@@ -97,8 +100,9 @@ impl<R: Relay, M: Meter> Core<R, M> {
     /// Takes the oldest error out of the queue.
     #[inline(never)]
     fn next_error(&mut self) -> SessionAnswer
-        ensures { StepText self.old (oldest_entry self.old.status.errors) (popped self.old.status) Bool.false result
-            self.new }
+        ensures step { StepText self.old.seen (oldest_entry self.old.seen.status.errors) (popped self.old.seen.status)
+            Bool.false result self.new.seen }
+        ensures cards { self.new.cards ≡ self.old.cards }
     {
         answered(AnswerText::entry(self.status.pop_error()))
     }
@@ -106,8 +110,9 @@ impl<R: Relay, M: Meter> Core<R, M> {
     /// Takes all errors out of the queue.
     #[inline(never)]
     fn all_errors(&mut self, alloc: Global) -> SessionAnswer
-        ensures { StepText self.old (all_entries self.old.status.errors) (record self.old.status { errors = [] })
-            Bool.false result self.new }
+        ensures step { StepText self.old.seen (all_entries self.old.seen.status.errors)
+            (record self.old.seen.status { errors = [] }) Bool.false result self.new.seen }
+        ensures cards { self.new.cards ≡ self.old.cards }
     {
         if self.status.count() <= 1 {
             return self.next_error();
@@ -123,8 +128,9 @@ impl<R: Relay, M: Meter> Core<R, M> {
 
     /// Clears the error queue and the event registers, and drops a pending `*OPC` (IEEE 488.2, 10.3).
     pub(crate) fn clear_status(&mut self) -> SessionAnswer
-        ensures { StepDone (record self.old { status = cleared self.old.status; opc_waits = Bool.false }) Bool.false
-            result self.new }
+        ensures step { StepDone (record self.old.seen { status = cleared self.old.seen.status; opc_waits = Bool.false })
+            Bool.false result self.new.seen }
+        ensures cards { self.new.cards ≡ self.old.cards }
     {
         self.status.clear();
         self.opc_waits = false;
@@ -133,7 +139,8 @@ impl<R: Relay, M: Meter> Core<R, M> {
 
     /// Lets the end of the scan set its event bit; the end of this event, where no scan runs (IEEE 488.2, 10.18).
     pub(crate) fn complete_operation(&mut self) -> SessionAnswer
-        ensures { StepDone (record self.old { opc_waits = Bool.true }) Bool.false result self.new }
+        ensures step { StepDone (record self.old.seen { opc_waits = Bool.true }) Bool.false result self.new.seen }
+        ensures cards { self.new.cards ≡ self.old.cards }
     {
         self.opc_waits = true;
         SessionAnswer::Done(None)
@@ -142,7 +149,9 @@ impl<R: Relay, M: Meter> Core<R, M> {
     /// Sets bits of the status.
     #[inline(always)]
     pub(crate) fn set_status(&mut self, setting: StatusSetting) -> SessionAnswer
-        ensures { StepDone (record self.old { status = with_bits setting self.old.status }) Bool.false result self.new }
+        ensures step { StepDone (record self.old.seen { status = with_bits setting self.old.seen.status }) Bool.false
+            result self.new.seen }
+        ensures cards { self.new.cards ≡ self.old.cards }
     {
         match setting {
             StatusSetting::EventEnable(bits) => self.status.set_ese(bits),
@@ -156,7 +165,9 @@ impl<R: Relay, M: Meter> Core<R, M> {
 
     /// Sets the enable registers and transition filters to their preset values (SCPI-1999, 20.7).
     pub(crate) fn preset(&mut self) -> SessionAnswer
-        ensures { StepDone (record self.old { status = preset self.old.status }) Bool.false result self.new }
+        ensures step { StepDone (record self.old.seen { status = preset self.old.seen.status }) Bool.false result
+            self.new.seen }
+        ensures cards { self.new.cards ≡ self.old.cards }
     {
         self.status.preset();
         SessionAnswer::Done(None)

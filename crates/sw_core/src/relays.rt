@@ -1,6 +1,7 @@
 //! Commands that call the relay cards.
 
 ghost use Rattle.std.specs.Prelude.{◌≡◌, Bool, None};
+ghost use Rattle.sw_cage.specs.Cards.{meters_of};
 ghost use Rattle.sw_cage.specs.Change.{any_failed};
 ghost use Rattle.sw_cage.specs.Accounts.{all_open};
 ghost use Rattle.sw_cage.specs.Channels.{closed_list};
@@ -25,8 +26,10 @@ impl<R: Relay, M: Meter> Core<R, M> {
     #[tactic(auto, using(crate::proofs::CallsLemmas::failed_same))]
     #[inline(never)]
     pub(crate) fn close(&mut self, chans: &[Chan]) -> SessionAnswer
-        requires idle { self.old.cage.scan ≡ None }
-        ensures { StepClose self.old chans.now (any_failed self.old.cage.cards self.new.cage.cards) result self.new }
+        requires idle { self.old.seen.cage.scan ≡ None }
+        ensures step { StepClose self.old.seen chans.now (any_failed self.old.seen.cage.cards self.new.seen.cage.cards)
+            result self.new.seen }
+        ensures meters { meters_of self.new.cards ≡ meters_of self.old.cards }
     {
         match self.cage.judge(chans) {
             Err(CloseRefusal::Absent) => SessionAnswer::Refused(ScpiError::HardwareMissing),
@@ -46,8 +49,10 @@ impl<R: Relay, M: Meter> Core<R, M> {
     #[tactic(auto, using(crate::proofs::CallsLemmas::failed_same))]
     #[inline(never)]
     pub(crate) fn open(&mut self, chans: &[Chan]) -> SessionAnswer
-        requires idle { self.old.cage.scan ≡ None }
-        ensures { StepOpen self.old chans.now (any_failed self.old.cage.cards self.new.cage.cards) result self.new }
+        requires idle { self.old.seen.cage.scan ≡ None }
+        ensures step { StepOpen self.old.seen chans.now (any_failed self.old.seen.cage.cards self.new.seen.cage.cards)
+            result self.new.seen }
+        ensures meters { meters_of self.new.cards ≡ meters_of self.old.cards }
     {
         if !self.cage.all_present(chans) {
             return SessionAnswer::Refused(ScpiError::HardwareMissing);
@@ -66,9 +71,10 @@ impl<R: Relay, M: Meter> Core<R, M> {
     #[tactic(auto, using(crate::proofs::CallsLemmas::failed_open))]
     #[inline(never)]
     pub(crate) fn open_everything(&mut self) -> SessionAnswer
-        requires idle { self.old.cage.scan ≡ None }
-        ensures { StepDone (with_cards self.old (all_open self.old.cage.cards))
-            (any_failed self.old.cage.cards self.new.cage.cards) result self.new }
+        requires idle { self.old.seen.cage.scan ≡ None }
+        ensures step { StepDone (with_cards self.old.seen (all_open self.old.seen.cage.cards))
+            (any_failed self.old.seen.cage.cards self.new.seen.cage.cards) result self.new.seen }
+        ensures meters { meters_of self.new.cards ≡ meters_of self.old.cards }
     {
         self.cage.open_all();
         SessionAnswer::Done(None)
@@ -78,7 +84,9 @@ impl<R: Relay, M: Meter> Core<R, M> {
     #[tactic(auto, using(crate::proofs::CallsLemmas::failed_open))]
     #[inline(never)]
     pub(crate) fn abort(&mut self) -> SessionAnswer
-        ensures { StepDone (aborted self.old) (any_failed self.old.cage.cards self.new.cage.cards) result self.new }
+        ensures step { StepDone (aborted self.old.seen) (any_failed self.old.seen.cage.cards self.new.seen.cage.cards)
+            result self.new.seen }
+        ensures meters { meters_of self.new.cards ≡ meters_of self.old.cards }
     {
         self.cage.abort();
         SessionAnswer::Done(None)
@@ -89,7 +97,9 @@ impl<R: Relay, M: Meter> Core<R, M> {
     #[tactic(auto, using(crate::proofs::CallsLemmas::failed_open))]
     #[inline(never)]
     pub(crate) fn reset(&mut self) -> SessionAnswer
-        ensures { StepDone (reset self.old) (any_failed self.old.cage.cards self.new.cage.cards) result self.new }
+        ensures step { StepDone (reset self.old.seen) (any_failed self.old.seen.cage.cards self.new.seen.cage.cards)
+            result self.new.seen }
+        ensures meters { meters_of self.new.cards ≡ meters_of self.old.cards }
     {
         self.cage.abort();
         self.cage.reset_readings();
@@ -102,8 +112,8 @@ impl<R: Relay, M: Meter> Core<R, M> {
     /// For each channel whether it is closed, or, where `closed` is false, whether it is open.
     #[inline(never)]
     pub(crate) fn flags(&self, alloc: Global, closed: bool, chans: &[Chan]) -> SessionAnswer
-        ensures { StepHardware self.now (has_all self.now chans.now) (flags_text closed chans.now self.now) Bool.false
-            result self.now }
+        ensures { StepHardware self.now.seen (has_all self.now.seen chans.now)
+            (flags_text closed chans.now self.now.seen) Bool.false result self.now.seen }
     {
         if !self.cage.all_present(chans) {
             return SessionAnswer::Refused(ScpiError::HardwareMissing);
@@ -120,8 +130,8 @@ impl<R: Relay, M: Meter> Core<R, M> {
     /// The list of the closed channels.
     #[inline(never)]
     pub(crate) fn close_state(&self, alloc: Global) -> SessionAnswer
-        ensures { StepText self.now (printed (closed_list self.now.cage.cards)) self.now.status Bool.false result
-            self.now }
+        ensures { StepText self.now.seen (printed (closed_list self.now.seen.cage.cards)) self.now.seen.status
+            Bool.false result self.now.seen }
     {
         match self.cage.closed_chans(alloc) {
             Ok(closed) => match print_list(alloc, &closed) {

@@ -24,7 +24,8 @@ impl<R: Relay, M: Meter> Core<R, M> {
     /// Answers why the mainframe would refuse INITiate now, or what its scan awaits and reads.
     #[inline(never)]
     pub(crate) fn check_scan(&self, alloc: Global) -> SessionAnswer
-        ensures { StepText self.now (scan_check_text self.now) self.now.status Bool.false result self.now }
+        ensures { StepText self.now.seen (scan_check_text self.now.seen) self.now.seen.status Bool.false result
+            self.now.seen }
     {
         match self.scan_check(alloc) {
             Ok(text) => answered(AnswerText::bytes(text)),
@@ -35,7 +36,7 @@ impl<R: Relay, M: Meter> Core<R, M> {
     /// The text of that. It looks at each position that the scan uses and at each closed channel twice at most, and at
     /// the closed channels once more for each channel of the refused position.
     fn scan_check(&self, alloc: Global) -> Result<Sequence<u8>, ScpiError>
-        ensures { IfOk result (λ text. text ≡ scan_check_text self.now) }
+        ensures { IfOk result (λ text. text ≡ scan_check_text self.now.seen) }
     {
         if self.cage.is_running() {
             return quoted(alloc, b"a scan runs", &[]);

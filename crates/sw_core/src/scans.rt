@@ -1,6 +1,9 @@
 //! Scans: their beginning, what happens to them, and the meters that return.
 
 ghost use Rattle.std.specs.Prelude.{◌≡◌, Bool, IfOk, IfSome, IfNone, None, Some, false, ◌↔◌, IsTrue, if◌then◌else◌};
+ghost use Rattle.sw_base.specs.Layout.{slot_at};
+ghost use Rattle.sw_cage.specs.Cards.{KeepsMeters, with_card_back};
+ghost use Rattle.sw_core.specs.Cards.{Keeps, KeepsFor, KeepsAfter, work_from, answer_from};
 ghost use Rattle.sw_core.specs.Registers.{card_fault_reported};
 ghost use Rattle.sw_cage.specs.Change.{any_failed};
 ghost use Rattle.sw_cage.specs.TakenSeen.{taken_seen, tells_fault};
@@ -31,7 +34,8 @@ use sw_verify::{Plan, Snapshot};
 /// The work that a scan awaits after this outcome.
 #[inline(always)]
 fn work_of<M: Meter>(told: Taken<M>) -> Option<Work<M>>
-    ensures { work_seen result ≡ work_of (taken_seen told) }
+    ensures seen { work_seen result ≡ work_of (taken_seen told) }
+    ensures very { result ≡ work_from told }
 {
     match told {
         Taken::Pause(ticket, micros) => Some(Work::Pause(ticket, micros)),
@@ -54,7 +58,8 @@ fn session_told<M: Meter>(told: &Taken<M>, error: ScpiError) -> SessionAnswer
 
 /// The answer to no session by the cage's outcome.
 fn outside_told<R: Relay, M: Meter>(told: Taken<M>) -> Answer<R, M>
-    ensures { answer_seen result ≡ outside_told (taken_seen told) }
+    ensures seen { answer_seen result ≡ outside_told (taken_seen told) }
+    ensures very { result ≡ answer_from told }
 {
     match told {
         Taken::Ignored => Answer::Missed,
@@ -99,8 +104,9 @@ impl<R: Relay, M: Meter> Core<R, M> {
     /// Offers a happening to the scan.
     #[inline(always)]
     fn happens(&mut self, happening: Happening) -> Taken<M>
-        ensures { Happens self.old happening (any_failed self.old.cage.cards self.new.cage.cards) (taken_seen result)
-            self.new }
+        ensures step { Happens self.old.seen happening (any_failed self.old.seen.cage.cards self.new.seen.cage.cards)
+            (taken_seen result) self.new.seen }
+        ensures meters { KeepsMeters self.old.cards result self.new.cards }
     {
         let told = self.cage.take(happening);
         if tells_fault(&told) {
@@ -111,6 +117,7 @@ impl<R: Relay, M: Meter> Core<R, M> {
 
     /// Offers a session's happening to the scan; where no scan takes it, this error refuses it. It leaves in `work`
     /// what the scan awaits now.
+    #[tactic(auto, using(crate::proofs::CardsLemmas::kept_for))]
     #[inline(never)]
     pub(crate) fn trigger(
         &mut self,
@@ -118,8 +125,9 @@ impl<R: Relay, M: Meter> Core<R, M> {
         error: ScpiError,
         work: &mut Option<Work<M>>,
     ) -> SessionAnswer
-        ensures { StepHappens self.old happening error (any_failed self.old.cage.cards self.new.cage.cards) result
-            (work_seen work.new) self.new }
+        ensures step { StepHappens self.old.seen happening error (any_failed self.old.seen.cage.cards
+            self.new.seen.cage.cards) result (work_seen work.new) self.new.seen }
+        ensures meters { KeepsFor self.old.cards work.new self.new.cards }
     {
         let told = self.happens(happening);
         let answer = session_told(&told, error);
@@ -130,9 +138,10 @@ impl<R: Relay, M: Meter> Core<R, M> {
     /// Offers a layer's signal to the scan.
     #[inline(never)]
     pub(crate) fn signal(&mut self, layer: LayerName, work: &mut Option<Work<M>>) -> SessionAnswer
-        ensures { (ask : SessionAsk) (available : Bool)
-            → StepAction (action_of available (Command.Signal layer)) self.old ask
-            (any_failed self.old.cage.cards self.new.cage.cards) result (work_seen work.new) self.new }
+        ensures step { (ask : SessionAsk) (available : Bool)
+            → StepAction (action_of available (Command.Signal layer)) self.old.seen ask
+            (any_failed self.old.seen.cage.cards self.new.seen.cage.cards) result (work_seen work.new) self.new.seen }
+        ensures meters { KeepsFor self.old.cards work.new self.new.cards }
     {
         let error = match layer {
             LayerName::Trigger => ScpiError::TriggerIgnored,
@@ -142,23 +151,27 @@ impl<R: Relay, M: Meter> Core<R, M> {
     }
 
     /// Offers a happening of no session to the scan.
+    #[tactic(auto, using(crate::proofs::CardsLemmas::kept_after))]
     #[inline(never)]
     pub(crate) fn outside(&mut self, happening: Happening) -> Answer<R, M>
-        ensures { StepOutside self.old happening (any_failed self.old.cage.cards self.new.cage.cards)
-            (answer_seen result) self.new }
+        ensures step { StepOutside self.old.seen happening (any_failed self.old.seen.cage.cards
+            self.new.seen.cage.cards) (answer_seen result) self.new.seen }
+        ensures meters { KeepsAfter self.old.cards result self.new.cards }
     {
         let told = self.happens(happening);
         outside_told(told)
     }
 
     /// Takes a meter back, and its reading where the scan awaits it.
+    #[tactic(auto, using(crate::proofs::CardsLemmas::kept_after, crate::proofs::CardsLemmas::kept_back))]
     #[inline(never)]
     pub(crate) fn finished(&mut self, done: Finished<M>) -> Answer<R, M>
-        ensures finished { StepFinished self.old done.1
-            (failed_in (AskFinished done.1) (answer_seen result) self.old.cage.cards self.new.cage.cards)
-            (answer_seen result) self.new }
+        ensures finished { StepFinished self.old.seen done.1
+            (failed_in (AskFinished done.1) (answer_seen result) self.old.seen.cage.cards self.new.seen.cage.cards)
+            (answer_seen result) self.new.seen }
         ensures own { IsOwnAccount (AskFinished done.1) }
         ensures back { HandsBack (Ask.Finished done) result }
+        ensures cards { Keeps self.old.cards (Ask.Finished done) result self.new.cards }
     {
         match self.cage.finish(done) {
             Err(done) => Answer::Back(done),
@@ -174,10 +187,14 @@ impl<R: Relay, M: Meter> Core<R, M> {
     /// Takes a meter back: one event, as `finish` does it. It leaves what the scan awaits now in `work`, and drops a
     /// meter that is not out here.
     #[inline(always)]
-    #[tactic(auto, using(crate::proofs::BroughtLemmas::returned_back))]
+    #[tactic(auto, using(crate::proofs::BroughtLemmas::returned_back, crate::proofs::CardsLemmas::kept_for))]
     pub fn come_back(&mut self, done: Finished<M>, work: &mut Option<Work<M>>)
         requires empty { work.old ≡ None }
-        ensures { StepBrings self.old (AskFinished done.1) (work_seen work.new) self.new }
+        ensures brings { StepBrings self.old.seen (AskFinished done.1) (work_seen work.new) self.new.seen }
+        ensures back { slot_at self.old.seen.cage.out done.1.slot ≡ Some done.1.ticket
+            → KeepsFor (with_card_back self.old.cards done) work.new self.new.cards }
+        ensures other { (slot_at self.old.seen.cage.out done.1.slot ≡ Some done.1.ticket → ⊥)
+            → self.new.cards ≡ self.old.cards }
     {
         match self.cage.finish(done) {
             Err(_) => {}
@@ -190,10 +207,11 @@ impl<R: Relay, M: Meter> Core<R, M> {
 
     /// Ends a pause: one event, as `apply` does it. It leaves what the scan awaits now in `work`.
     #[inline(always)]
-    #[tactic(auto, using(crate::proofs::BroughtLemmas::elapsed_worn))]
+    #[tactic(auto, using(crate::proofs::BroughtLemmas::elapsed_worn, crate::proofs::CardsLemmas::kept_for))]
     pub fn elapse(&mut self, ticket: Ticket, work: &mut Option<Work<M>>)
         requires empty { work.old ≡ None }
-        ensures { StepBrings self.old (AskElapsed ticket) (work_seen work.new) self.new }
+        ensures brings { StepBrings self.old.seen (AskElapsed ticket) (work_seen work.new) self.new.seen }
+        ensures meters { KeepsFor self.old.cards work.new self.new.cards }
     {
         if self.events == u64::MAX {
             return;
@@ -206,8 +224,10 @@ impl<R: Relay, M: Meter> Core<R, M> {
     #[inline(always)]
     #[tactic(auto, using(crate::proofs::BroughtLemmas::concluded_fault, crate::proofs::BroughtLemmas::concluded_else, crate::proofs::BroughtLemmas::told_brings))]
     fn conclude(&mut self, said: Taken<M>, work: &mut Option<Work<M>>)
-        ensures ended { self.new ≡ concluded (outside_told (taken_seen said)) self.old }
+        ensures ended { self.new.seen ≡ concluded (outside_told (taken_seen said)) self.old.seen }
         ensures brings { Brings (outside_told (taken_seen said)) (work_seen work.new) }
+        ensures work { work.new ≡ work_from said }
+        ensures cards { self.new.cards ≡ self.old.cards }
     {
         if tells_fault(&said) {
             self.status.push_error(ScpiError::HardwareError);
@@ -218,8 +238,8 @@ impl<R: Relay, M: Meter> Core<R, M> {
 
     /// Why no scan may begin now.
     fn refuses_scan(&self) -> Option<ScpiError>
-        ensures error { IfSome result (λ e. RefusesScan self.now e) }
-        ensures none { IfNone result (MayScan self.now) }
+        ensures error { IfSome result (λ e. RefusesScan self.now.seen e) }
+        ensures none { IfNone result (MayScan self.now.seen) }
     {
         if self.cage.is_running() {
             return Some(ScpiError::InitIgnored);
@@ -236,7 +256,7 @@ impl<R: Relay, M: Meter> Core<R, M> {
     /// What a scan would begin from.
     #[inline(never)]
     pub(crate) fn snapshot(&self, alloc: Global) -> SessionAnswer
-        ensures { StepSnapshot self.now Bool.false result self.now }
+        ensures { StepSnapshot self.now.seen Bool.false result self.now.seen }
     {
         if let Some(error) = self.refuses_scan() {
             return SessionAnswer::Refused(error);
@@ -248,7 +268,7 @@ impl<R: Relay, M: Meter> Core<R, M> {
     }
 
     fn take_snapshot(&self, alloc: Global) -> Result<Boxed<Snapshot>, AllocError>
-        ensures { IfOk result (λ s. s ≡ snapshot_of self.now) }
+        ensures { IfOk result (λ s. s ≡ snapshot_of self.now.seen) }
     {
         let snapshot = Snapshot {
             settings: self.settings.try_copy(alloc)?,
@@ -269,8 +289,9 @@ impl<R: Relay, M: Meter> Core<R, M> {
         work: &mut Option<Work<M>>,
     ) -> SessionAnswer
         requires empty { work.old ≡ None }
-        ensures { StepStart self.old plan (any_failed self.old.cage.cards self.new.cage.cards) result
-            (work_seen work.new) self.new }
+        ensures step { StepStart self.old.seen plan (any_failed self.old.seen.cage.cards self.new.seen.cage.cards)
+            result (work_seen work.new) self.new.seen }
+        ensures meters { KeepsFor self.old.cards work.new self.new.cards }
     {
         if let Some(error) = self.refuses_scan() {
             return SessionAnswer::Refused(error);
@@ -283,20 +304,22 @@ impl<R: Relay, M: Meter> Core<R, M> {
 
     /// Whether the snapshot is of the state as it is now. It takes no memory.
     fn is_now(&self, snapshot: &Snapshot) -> bool
-        ensures { IsTrue result ↔ (snapshot.now ≡ snapshot_of self.now) }
+        ensures { IsTrue result ↔ (snapshot.now ≡ snapshot_of self.now.seen) }
     {
         self.settings.is_same(&snapshot.settings)
             && self.cage.has_layout(&snapshot.layout)
             && self.cage.has_closed(snapshot.closed.as_slice())
     }
 
+    #[tactic(auto, using(crate::proofs::CardsLemmas::kept_for))]
     fn begin(&mut self, alloc: Global, plan: Plan, work: &mut Option<Work<M>>) -> SessionAnswer
-        requires may { MayScan self.old }
-        requires same { plan ≡ snapshot_of self.old }
+        requires may { MayScan self.old.seen }
+        requires same { plan ≡ snapshot_of self.old.seen }
         requires ready { IsReady plan }
         requires empty { work.old ≡ None }
-        ensures { StepStart self.old plan (any_failed self.old.cage.cards self.new.cage.cards) result
-            (work_seen work.new) self.new }
+        ensures step { StepStart self.old.seen plan (any_failed self.old.seen.cage.cards self.new.seen.cage.cards)
+            result (work_seen work.new) self.new.seen }
+        ensures meters { KeepsFor self.old.cards work.new self.new.cards }
     {
         match self.cage.start(alloc, plan.into_course()) {
             Err(_) => SessionAnswer::Refused(ScpiError::OutOfMemory),

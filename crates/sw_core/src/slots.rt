@@ -26,7 +26,8 @@ impl<R: Relay, M: Meter> Core<R, M> {
     /// Answers a query of a slot.
     #[inline(never)]
     pub(crate) fn tell_slot(&self, alloc: Global, query: SlotQuery, slot: u8) -> SessionAnswer
-        ensures { (ask : SessionAsk) → StepAction (slot_action query slot) self.now ask Bool.false result None self.now }
+        ensures { (ask : SessionAsk) → StepAction (slot_action query slot) self.now.seen ask Bool.false result None
+            self.now.seen }
     {
         match query {
             SlotQuery::Kind => self.kind(alloc, slot),
@@ -37,7 +38,8 @@ impl<R: Relay, M: Meter> Core<R, M> {
 
     /// The maker, the kind, the serial number and the revision of the slot's card.
     fn kind(&self, alloc: Global, slot: u8) -> SessionAnswer
-        ensures { StepText self.now (kind_text slot self.now) self.now.status Bool.false result self.now }
+        ensures { StepText self.now.seen (kind_text slot self.now.seen) self.now.seen.status Bool.false result
+            self.now.seen }
     {
         match self.cage.card(slot) {
             Some(card) => told(kind_of(alloc, card)),
@@ -48,8 +50,8 @@ impl<R: Relay, M: Meter> Core<R, M> {
 
     /// The group of each channel of the slot's relay card.
     fn groups(&self, alloc: Global, slot: u8) -> SessionAnswer
-        ensures { StepHardware self.now (has_relays slot self.now) (groups_text slot self.now) Bool.false result
-            self.now }
+        ensures { StepHardware self.now.seen (has_relays slot self.now.seen) (groups_text slot self.now.seen) Bool.false
+            result self.now.seen }
     {
         match self.cage.card(slot) {
             Some(card) if !card.is_meter() => told(groups_of(alloc, card)),
@@ -59,7 +61,7 @@ impl<R: Relay, M: Meter> Core<R, M> {
 
     /// Whether the slot's card is sure of its relays.
     fn card_state(&self, slot: u8) -> SessionAnswer
-        ensures { StepSurety self.now (state_text slot self.now) Bool.false result self.now }
+        ensures { StepSurety self.now.seen (state_text slot self.now.seen) Bool.false result self.now.seen }
     {
         match self.cage.card(slot) {
             Some(card) => answered(word_of(card)),

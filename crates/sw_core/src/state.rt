@@ -1,12 +1,15 @@
 //! The whole state of the mainframe, and the calls that change it: `apply`, and its part `ask`.
 
-ghost use Rattle.std.specs.Prelude.{◌≡◌, ◌==◌, ◌&&◌, ◌||◌, Bool, IfOk, None, Some, true, false};
+ghost use Rattle.std.specs.Prelude.{◌≡◌, ◌==◌, ◌&&◌, ◌||◌, Bool, IfOk, None, Some, replicate, true, false};
+ghost use Rattle.sw_base.specs.Limits.{most_slots};
+ghost use Rattle.sw_cage.specs.Accounts.{accounts_of};
 ghost use Rattle.sw_cage.specs.Change.{any_failed};
 ghost use Rattle.sw_status.specs.StatusModel.{summary_of};
 ghost use Rattle.sw_core.specs.Sessions.{IsJoined};
 ghost use Rattle.sw_core.specs.Seen.{ask_seen, answer_seen, work_seen, failed_in, HandsBack, IsOwnAccount};
 ghost use Rattle.sw_core.specs.Seen.{AskSession, AskInstall, AskEject, SaysSession};
-ghost use Rattle.sw_core.specs.Panel.{Panel, is_running, opening, opening_at};
+ghost use Rattle.sw_core.specs.Cards.{Keeps, KeepsFor};
+ghost use Rattle.sw_core.specs.Panel.{is_running, opening, opening_at};
 ghost use Rattle.sw_core.specs.Seats.{asker_of};
 ghost use Rattle.sw_core.specs.Event.{last_number};
 ghost use Rattle.sw_core.specs.Action.{awaits_end};
@@ -34,8 +37,10 @@ use sw_lex::{Command, NoData};
 use sw_status::Status;
 use sw_verify::Setup;
 
-/// The mainframe: its cage of cards and its scan, its sessions, its status and the settings of its scans. Contracts see
-/// its panel.
+/// The mainframe: its cage of cards and its scan, its sessions, its status and the settings of its scans.
+///
+/// Contracts see the cards themselves by slot (`cards`), and the mainframe as data (`seen`), in which each card is its
+/// own account.
 #[derive(Drop)]
 pub struct Core<R: Relay, M: Meter> {
     pub(crate) cage: Cage<R, M>,
@@ -49,29 +54,37 @@ pub struct Core<R: Relay, M: Meter> {
 }
 
 impl<R: Relay, M: Meter> Model for Core<R, M> {
-    ghost Value = { Panel };
+    ghost use Rattle.std.specs.Prelude.{◌⊎◌};
+    ghost use Rattle.sw_core.specs.Cards.{CoreState};
+
+    ghost Value = { CoreState (R ⊎ M) };
 
     ghost view = { λ c. record {
-      cage = c.cage.seen;
-      sessions = c.sessions;
-      status = c.status;
-      settings = c.settings;
-      opc_waits = c.opc_waits;
-      events = c.events;
+      cards = c.cage.cards;
+      seen = record {
+        cage = c.cage.seen;
+        sessions = c.sessions;
+        status = c.status;
+        settings = c.settings;
+        opc_waits = c.opc_waits;
+        events = c.events;
+      };
     } };
 }
 
 impl<R: Relay, M: Meter> Core<R, M> {
     /// A mainframe with an empty cage, and no session joined.
     pub fn new(alloc: Global) -> Result<Self, AllocError>
-        ensures { IfOk result (λ core. core ≡ opening) }
+        ensures seen { IfOk result (λ core. core.seen ≡ opening) }
+        ensures cards { IfOk result (λ core. core.cards ≡ replicate most_slots None) }
     {
         Core::with_counts(alloc, 0, 0)
     }
 
     /// A mainframe that counts its events and its scans on from these numbers.
     pub fn with_counts(alloc: Global, events: u64, scans: u64) -> Result<Self, AllocError>
-        ensures { IfOk result (λ core. core ≡ opening_at events scans) }
+        ensures seen { IfOk result (λ core. core.seen ≡ opening_at events scans) }
+        ensures cards { IfOk result (λ core. core.cards ≡ replicate most_slots None) }
     {
         Ok(Core {
             cage: Cage::with_number(alloc, scans)?,
@@ -85,22 +98,29 @@ impl<R: Relay, M: Meter> Core<R, M> {
 
     /// The number of events so far. It stays at 2^64 - 1.
     pub fn events(&self) -> u64
-        ensures { result ≡ self.now.events }
+        ensures { result ≡ self.now.seen.events }
     {
         self.events
     }
 
     /// Whether a scan runs.
     pub fn is_running(&self) -> bool
-        ensures { result ≡ is_running self.now }
+        ensures { result ≡ is_running self.now.seen }
     {
         self.cage.is_running()
     }
 
+    /// A law: the mainframe as data has the accounts of the cards themselves. It costs nothing.
+    pub fn has_accounts(&self)
+        ensures { self.now.seen.cage.cards ≡ accounts_of self.now.cards }
+    {
+        self.cage.stays_good();
+    }
+
     /// The status byte without bits 4 and 6, and the number of service requests so far: the published status.
     pub fn pair(&self) -> (u8, u64)
-        ensures byte { result.0 ≡ summary_of self.now.status }
-        ensures requests { result.1 ≡ self.now.status.requests }
+        ensures byte { result.0 ≡ summary_of self.now.seen.status }
+        ensures requests { result.1 ≡ self.now.seen.status.requests }
     {
         (self.status.summary(), self.status.requests())
     }
@@ -113,11 +133,12 @@ impl<R: Relay, M: Meter> Core<R, M> {
     /// says.
     #[tactic(auto, using(crate::proofs::NumberedLemmas::worn_step, crate::proofs::NumberedLemmas::numbered_step, crate::proofs::NumberedLemmas::own_worn))]
     pub fn apply(&mut self, alloc: Global, ask: Ask<R, M>) -> Answer<R, M>
-        ensures step { Step self.old (ask_seen ask)
-            (failed_in (ask_seen ask) (answer_seen result) self.old.cage.cards self.new.cage.cards)
-            (answer_seen result) self.new }
+        ensures step { Step self.old.seen (ask_seen ask)
+            (failed_in (ask_seen ask) (answer_seen result) self.old.seen.cage.cards self.new.seen.cage.cards)
+            (answer_seen result) self.new.seen }
         ensures own { IsOwnAccount (ask_seen ask) }
         ensures back { HandsBack ask result }
+        ensures cards { Keeps self.old.cards ask result self.new.cards }
     {
         if self.events == u64::MAX && !acts_unnumbered(&ask) {
             return unnumbered(ask);
@@ -138,8 +159,9 @@ impl<R: Relay, M: Meter> Core<R, M> {
         work: &mut Option<Work<M>>,
     )
         requires { work.old ≡ None }
-        ensures { Step self.old (AskSession ask) (any_failed self.old.cage.cards self.new.cage.cards)
-            (SaysSession answer.new (work_seen work.new)) self.new }
+        ensures step { Step self.old.seen (AskSession ask) (any_failed self.old.seen.cage.cards
+            self.new.seen.cage.cards) (SaysSession answer.new (work_seen work.new)) self.new.seen }
+        ensures meters { KeepsFor self.old.cards work.new self.new.cards }
     {
         if self.events == u64::MAX && !session_acts_unnumbered(&ask) {
             hand_back(ask, answer);
@@ -162,8 +184,10 @@ impl<R: Relay, M: Meter> Core<R, M> {
         work: &mut Option<Work<M>>,
     )
         requires { work.old ≡ None }
-        ensures { Step self.old (AskSession (Unit sid command available))
-            (any_failed self.old.cage.cards self.new.cage.cards) (SaysSession answer.new (work_seen work.new)) self.new }
+        ensures step { Step self.old.seen (AskSession (Unit sid command available))
+            (any_failed self.old.seen.cage.cards self.new.seen.cage.cards) (SaysSession answer.new (work_seen work.new))
+            self.new.seen }
+        ensures meters { KeepsFor self.old.cards work.new self.new.cards }
     {
         if self.events == u64::MAX && !is_abort(&command) {
             hand_unit_back(sid, command, available, answer);
@@ -175,11 +199,11 @@ impl<R: Relay, M: Meter> Core<R, M> {
 
     /// Whether the mainframe would hold a session's ask now; nothing changes. For a lock's ask the answer is no.
     pub fn holds(&self, ask: &SessionAsk) -> bool
-        ensures held { result ≡ true → Step self.now (AskSession ask.now) Bool.false
-            (SaysSession (Hold ask.now) None) self.now }
-        ensures answer { (sid : Sid) → asker_of ask.now ≡ Some sid → IsJoined self.now.sessions sid
-            → drops self.now sid ask.now ≡ false → (self.now.events == last_number) ≡ false
-            → result ≡ shuts_out self.now sid ask.now || (is_held ask.now && is_running self.now) }
+        ensures held { result ≡ true → Step self.now.seen (AskSession ask.now) Bool.false
+            (SaysSession (Hold ask.now) None) self.now.seen }
+        ensures answer { (sid : Sid) → asker_of ask.now ≡ Some sid → IsJoined self.now.seen.sessions sid
+            → drops self.now.seen sid ask.now ≡ false → (self.now.seen.events == last_number) ≡ false
+            → result ≡ shuts_out self.now.seen sid ask.now || (is_held ask.now && is_running self.now.seen) }
     {
         if self.events == u64::MAX {
             return false;
@@ -198,11 +222,12 @@ impl<R: Relay, M: Meter> Core<R, M> {
 
     /// Does an ask, and leaves the end of the event to the caller.
     fn act(&mut self, alloc: Global, ask: Ask<R, M>) -> Answer<R, M>
-        ensures acts { Acts self.old (ask_seen ask)
-            (failed_in (ask_seen ask) (answer_seen result) self.old.cage.cards self.new.cage.cards)
-            (answer_seen result) self.new }
+        ensures acts { Acts self.old.seen (ask_seen ask)
+            (failed_in (ask_seen ask) (answer_seen result) self.old.seen.cage.cards self.new.seen.cage.cards)
+            (answer_seen result) self.new.seen }
         ensures own { IsOwnAccount (ask_seen ask) }
         ensures back { HandsBack ask result }
+        ensures cards { Keeps self.old.cards ask result self.new.cards }
     {
         match ask {
             Ask::Session(ask) => {
@@ -222,9 +247,10 @@ impl<R: Relay, M: Meter> Core<R, M> {
     #[tactic(auto, using(crate::proofs::CallsLemmas::failed_same))]
     #[inline(never)]
     fn install(&mut self, slot: u8, card: Card<R, M>) -> Answer<R, M>
-        ensures acts { Acts self.old (AskInstall slot card.1) (any_failed self.old.cage.cards self.new.cage.cards)
-            (answer_seen result) self.new }
+        ensures acts { Acts self.old.seen (AskInstall slot card.1) (any_failed self.old.seen.cage.cards
+            self.new.seen.cage.cards) (answer_seen result) self.new.seen }
         ensures back { HandsBack (Ask.Install slot card) result }
+        ensures cards { Keeps self.old.cards (Ask.Install slot card) result self.new.cards }
     {
         match self.cage.install(slot, card) {
             Ok(()) => return Answer::Installed,
@@ -235,8 +261,9 @@ impl<R: Relay, M: Meter> Core<R, M> {
     #[tactic(auto, using(crate::proofs::CallsLemmas::failed_same))]
     #[inline(never)]
     fn eject(&mut self, slot: u8) -> Answer<R, M>
-        ensures { Acts self.old (AskEject slot) (any_failed self.old.cage.cards self.new.cage.cards)
-            (answer_seen result) self.new }
+        ensures acts { Acts self.old.seen (AskEject slot) (any_failed self.old.seen.cage.cards self.new.seen.cage.cards)
+            (answer_seen result) self.new.seen }
+        ensures cards { Keeps self.old.cards (Ask.Eject slot) result self.new.cards }
     {
         match self.cage.eject(slot) {
             Ok(card) => {
@@ -256,8 +283,9 @@ impl<R: Relay, M: Meter> Core<R, M> {
         work: &mut Option<Work<M>>,
     )
         requires { work.old ≡ None }
-        ensures { StepSession (asker_of ask) self.old ask (any_failed self.old.cage.cards self.new.cage.cards)
-            answer.new (work_seen work.new) self.new }
+        ensures step { StepSession (asker_of ask) self.old.seen ask (any_failed self.old.seen.cage.cards
+            self.new.seen.cage.cards) answer.new (work_seen work.new) self.new.seen }
+        ensures meters { KeepsFor self.old.cards work.new self.new.cards }
     {
         match ask {
             SessionAsk::Unit(sid, command, available) => {
@@ -280,8 +308,10 @@ impl<R: Relay, M: Meter> Core<R, M> {
         work: &mut Option<Work<M>>,
     )
         requires { work.old ≡ None }
-        ensures { StepSession (Some sid) self.old (Unit sid command available)
-            (any_failed self.old.cage.cards self.new.cage.cards) answer.new (work_seen work.new) self.new }
+        ensures step { StepSession (Some sid) self.old.seen (Unit sid command available)
+            (any_failed self.old.seen.cage.cards self.new.seen.cage.cards) answer.new (work_seen work.new)
+            self.new.seen }
+        ensures meters { KeepsFor self.old.cards work.new self.new.cards }
     {
         if !self.sessions.has(sid) {
             drop(command);
@@ -312,8 +342,9 @@ impl<R: Relay, M: Meter> Core<R, M> {
     )
         requires apart { (sid : Sid) (command : Command) (available : Bool) → ask ≡ Unit sid command available → ⊥ }
         requires empty { work.old ≡ None }
-        ensures { StepSession (asker_of ask) self.old ask (any_failed self.old.cage.cards self.new.cage.cards)
-            answer.new (work_seen work.new) self.new }
+        ensures step { StepSession (asker_of ask) self.old.seen ask (any_failed self.old.seen.cage.cards
+            self.new.seen.cage.cards) answer.new (work_seen work.new) self.new.seen }
+        ensures meters { KeepsFor self.old.cards work.new self.new.cards }
     {
         let Some(sid) = asker(&ask) else {
             self.newcomer(ask, answer);
@@ -340,7 +371,9 @@ impl<R: Relay, M: Meter> Core<R, M> {
     #[inline(never)]
     fn newcomer(&mut self, ask: SessionAsk, answer: &mut SessionAnswer)
         requires { asker_of ask ≡ None }
-        ensures { StepNew self.old ask (any_failed self.old.cage.cards self.new.cage.cards) answer.new None self.new }
+        ensures step { StepNew self.old.seen ask (any_failed self.old.seen.cage.cards self.new.seen.cage.cards)
+            answer.new None self.new.seen }
+        ensures cards { self.new.cards ≡ self.old.cards }
     {
         match ask {
             SessionAsk::Attach(number) => put(self.attach(number), answer),
@@ -354,7 +387,9 @@ impl<R: Relay, M: Meter> Core<R, M> {
     /// Makes the second channel of a session.
     #[tactic(auto, using(crate::proofs::CallsLemmas::failed_same))]
     fn attach(&mut self, number: u8) -> SessionAnswer
-        ensures { StepAttach self.old number (any_failed self.old.cage.cards self.new.cage.cards) result None self.new }
+        ensures step { StepAttach self.old.seen number (any_failed self.old.seen.cage.cards self.new.seen.cage.cards)
+            result None self.new.seen }
+        ensures cards { self.new.cards ≡ self.old.cards }
     {
         match self.sessions.attach(number) {
             Some(sid) => SessionAnswer::Joined(sid),
@@ -365,7 +400,9 @@ impl<R: Relay, M: Meter> Core<R, M> {
     /// Makes a new session.
     #[tactic(auto, using(crate::proofs::CallsLemmas::failed_same))]
     fn join(&mut self) -> SessionAnswer
-        ensures { StepJoin self.old (any_failed self.old.cage.cards self.new.cage.cards) result None self.new }
+        ensures step { StepJoin self.old.seen (any_failed self.old.seen.cage.cards self.new.seen.cage.cards) result None
+            self.new.seen }
+        ensures cards { self.new.cards ≡ self.old.cards }
     {
         match self.sessions.join(self.events.saturating_add(1)) {
             Some(sid) => SessionAnswer::Joined(sid),
@@ -384,11 +421,12 @@ impl<R: Relay, M: Meter> Core<R, M> {
         work: &mut Option<Work<M>>,
     )
         requires asker { asker_of ask ≡ Some sid }
-        requires joined { IsJoined self.old.sessions sid }
+        requires joined { IsJoined self.old.seen.sessions sid }
         requires apart { (sid : Sid) (command : Command) (available : Bool) → ask ≡ Unit sid command available → ⊥ }
         requires empty { work.old ≡ None }
-        ensures { StepJoined self.old ask (any_failed self.old.cage.cards self.new.cage.cards) answer.new
-            (work_seen work.new) self.new }
+        ensures step { StepJoined self.old.seen ask (any_failed self.old.seen.cage.cards self.new.seen.cage.cards)
+            answer.new (work_seen work.new) self.new.seen }
+        ensures meters { KeepsFor self.old.cards work.new self.new.cards }
     {
         match ask {
             SessionAsk::Fault(_, error) => {

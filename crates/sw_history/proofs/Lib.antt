@@ -17,3 +17,4 @@ pub mod HoldsLemmas
 pub mod SeatedLemmas
 pub mod WokenLemmas
 pub mod JoinedLemmas
+pub mod CameLemmas

@@ -1,15 +1,18 @@
 -- What is behind the lock, and what a desk has of it.
 use Rattle.std.specs.Prelude.{ℕ, Bool, true, false, List, [], ◌∷◌, ◌++◌, map, Option, None, Some}
 use Rattle.circular_buffer.specs.Buffer.{keep_last}
+use Rattle.sw_cage.specs.Cards.{Cards}
 use Rattle.sw_core.specs.Panel.{Panel}
 use Rattle.sw_history.specs.declared.note.Note.{Note}
 use Rattle.sw_history.specs.Board.{Known}
 use Rattle.sw_history.specs.Entries.{HistoryEntry}
 use Rattle.sw_history.specs.Kinds.{ask_kind}
 
--- what is behind the lock: the mainframe's panel, how many desks there are, all events, and the turn
-pub record Locked : Type 0 where
+-- what is behind the lock: the mainframe's panel and its cards by slot, how many desks there are, all events, and the
+-- turn
+pub record Locked (C : Type 0) : Type 0 where
   pub panel : Panel
+  pub cards : Cards C
   pub given : ℕ
   pub history : List HistoryEntry
   pub turn : ℕ

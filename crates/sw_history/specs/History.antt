@@ -3,6 +3,7 @@
 use Rattle.std.specs.Prelude.{◌≡◌, ℕ, Bool, true, false, List, [], ◌∷◌, ◌++◌, Some, None}
 use mathlib.Core.List.{IsPrefix}
 use Rattle.sw_status.specs.StatusModel.{summary_of}
+use Rattle.sw_cage.specs.Cards.{Cards}
 use Rattle.sw_core.specs.Panel.{Panel}
 use Rattle.sw_lex.specs.declared.command.Command.TheVariants.{NoData}
 use Rattle.sw_lex.specs.declared.command.NoData.TheVariants.{OperationCompleteQuery}
@@ -79,10 +80,11 @@ pub record AsksInHistory (start p : Panel) (v : Known) (e : Event) (w : Known) :
   pub desk : w.desk ≡ v.desk
   pub own : (d : ℕ) → w.desk ≡ Some d → made_by d w.seen ≡ w.mine
 
--- a mainframe's panel, and the history that leads to it
-pub record InHistory : Type 0 where
+-- a mainframe's panel, the history that leads to it, and the cards themselves by slot
+pub record InHistory (C : Type 0) : Type 0 where
   pub panel : Panel
   pub history : List HistoryEntry
+  pub cards : Cards C
 
 -- the mainframe holds the session's *OPC?
 abbrev pub AwaitsEnd : Panel → Sid → Type 0

@@ -12,3 +12,4 @@ pub mod Waking
 pub mod Asks
 pub mod Joined
 pub mod Coming
+pub mod Came

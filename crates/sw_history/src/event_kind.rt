@@ -3,6 +3,7 @@
 
 use crate::coming::Coming;
 use crate::note::AskKind;
+use crate::recorded::Equipped;
 use crate::waking::{WakeScope, may_end};
 use std::alloc::Global;
 use std::mem::replace;
@@ -11,10 +12,13 @@ use sw_core::{Answer, Ask, Core, SessionAnswer, SessionAsk, Work};
 
 /// A kind of event: its ask and its answer, how the mainframe is asked, and what ask and answer say.
 pub trait EventKind<R: Relay, M: Meter> {
-    ghost use Rattle.std.specs.Prelude.{◌≡◌, None, Some, MatchOption};
+    ghost use Rattle.std.specs.Prelude.{◌≡◌, ℕ, Option, None, Some, MatchOption, ◌⊎◌};
+    ghost use Rattle.sw_card.specs.Account.{Account};
+    ghost use Rattle.sw_cage.specs.Cards.{Cards};
     ghost use Rattle.sw_core.specs.Step.{Step};
     ghost use Rattle.sw_core.specs.Seen.{AskSeen, AnswerSeen, failed_in, IsOwnAccount};
     ghost use Rattle.sw_history.specs.Closing.{is_unasked};
+    ghost use Rattle.sw_history.specs.Came.{AllCame, HasCome};
     ghost use Rattle.sw_history.specs.Coming.{coming_of};
     ghost use Rattle.sw_history.specs.Kinds.{ask_kind};
     ghost use Rattle.sw_history.specs.Said.{session_told};
@@ -42,6 +46,12 @@ pub trait EventKind<R: Relay, M: Meter> {
     /// What the answer gives back is what the ask had.
     ghost hands_back: { Self.Ask → Self.Answer → Type 0 };
 
+    /// Which cards are the very ones after the ask.
+    ghost keeps: { Cards (R ⊎ M) → Self.Ask → Self.Answer → Self.Left → Cards (R ⊎ M) → Type 0 };
+
+    /// The card that the ask brings, if any, and its place.
+    ghost brought: { Self.Ask → Option (ℕ × ((R ⊎ M) × Account)) };
+
     /// Makes the ask. It leaves the answer in `answer`, and what comes beside it in `left`.
     fn happen(
         core: &mut Core<R, M>,
@@ -51,10 +61,17 @@ pub trait EventKind<R: Relay, M: Meter> {
         left: &mut Self::Left,
     )
         requires { is_blank left.old }
-        ensures step { let said = answered answer.new left.new in Step core.old (asked ask)
-            (failed_in (asked ask) said core.old.cage.cards core.new.cage.cards) said core.new }
+        ensures step { let said = answered answer.new left.new in Step core.old.seen (asked ask)
+            (failed_in (asked ask) said core.old.seen.cage.cards core.new.seen.cage.cards) said core.new.seen }
         ensures own { IsOwnAccount (asked ask) }
-        ensures back { hands_back ask answer.new };
+        ensures back { hands_back ask answer.new }
+        ensures cards { keeps core.old.cards ask answer.new left.new core.new.cards };
+
+    /// A law: where the meters and the card that an ask brings had come into their places, so have the meters that are
+    /// there after it. It costs nothing.
+    fn all_came<B: Equipped>()
+        ensures { (old new : Cards (R ⊎ M)) (ask : Self.Ask) (answer : Self.Answer) (left : Self.Left)
+            → keeps old ask answer left new → HasCome B.came (brought ask) → AllCame B.came old → AllCame B.came new };
 
     /// What the ask is called.
     fn kind(ask: &Self::Ask) -> AskKind
@@ -96,6 +113,7 @@ pub struct BySession;
 
 impl<R: Relay, M: Meter> EventKind<R, M> for BySession {
     ghost use Rattle.std.specs.Prelude.{◌≡◌, None};
+    ghost use Rattle.sw_core.specs.Cards.{KeepsFor};
     ghost use Rattle.sw_core.specs.Seen.{AskSession, SaysSession, work_seen};
 
     type Ask = SessionAsk;
@@ -112,6 +130,10 @@ impl<R: Relay, M: Meter> EventKind<R, M> for BySession {
 
     ghost hands_back = { λ ask answer. Unit {0} };
 
+    ghost keeps = { λ old ask answer work new. KeepsFor old work new };
+
+    ghost brought = { λ ask. None };
+
     #[inline(always)]
     fn happen(
         core: &mut Core<R, M>,
@@ -122,6 +144,9 @@ impl<R: Relay, M: Meter> EventKind<R, M> for BySession {
     ) {
         core.ask(alloc, ask, answer, left);
     }
+
+    #[tactic(auto, using(crate::proofs::CameLemmas::came_for))]
+    fn all_came<B: Equipped>() {}
 
     fn kind(ask: &SessionAsk) -> AskKind {
         match ask {
@@ -202,7 +227,9 @@ impl<R: Relay, M: Meter> EventKind<R, M> for BySession {
 pub struct FromOutside;
 
 impl<R: Relay, M: Meter> EventKind<R, M> for FromOutside {
+    ghost use Rattle.sw_core.specs.Cards.{Keeps};
     ghost use Rattle.sw_core.specs.Seen.{ask_seen, answer_seen, HandsBack};
+    ghost use Rattle.sw_history.specs.Came.{brought};
 
     type Ask = Ask<R, M>;
 
@@ -218,6 +245,10 @@ impl<R: Relay, M: Meter> EventKind<R, M> for FromOutside {
 
     ghost hands_back = { λ ask answer. HandsBack ask answer };
 
+    ghost keeps = { λ old ask answer left new. Keeps old ask answer new };
+
+    ghost brought = { λ ask. brought ask };
+
     fn happen(
         core: &mut Core<R, M>,
         alloc: Global,
@@ -227,6 +258,8 @@ impl<R: Relay, M: Meter> EventKind<R, M> for FromOutside {
     ) {
         drop(replace(answer, core.apply(alloc, ask)));
     }
+
+    fn all_came<B: Equipped>() {}
 
     fn kind(ask: &Ask<R, M>) -> AskKind {
         match ask {

@@ -4,10 +4,13 @@ ghost use Rattle.std.specs.Prelude.{◌≡◌, ◌==◌, ◌+◌, ◌<◌, ◌&&
 ghost use Rattle.std.specs.Prelude.{Some, true};
 ghost use mathlib.Core.List.{IsPrefix};
 ghost use Rattle.circular_buffer.specs.Buffer.{buffer, keep_last};
+ghost use Rattle.sw_cage.specs.Accounts.{accounts_of};
+ghost use Rattle.sw_core.specs.Cards.{Keeps};
 ghost use Rattle.sw_core.specs.Opening.{IsFresh, IsReached};
 ghost use Rattle.sw_core.specs.Seen.{ask_seen, answer_seen, failed_in, HandsBack};
 ghost use Rattle.sw_core.specs.Step.{Step};
 ghost use Rattle.sw_history.specs.Board.{entry_of, reader};
+ghost use Rattle.sw_history.specs.Came.{AllCame};
 ghost use Rattle.sw_history.specs.Closing.{EndsAtRest, is_unasked};
 ghost use Rattle.sw_history.specs.Entries.{last_pair, made_by};
 ghost use Rattle.sw_history.specs.Held.{notes_of, noted};
@@ -21,7 +24,7 @@ use crate::board::StatusBoard;
 use crate::event_kind::{EventKind, FromOutside};
 use crate::laws::whoever_may_go_on_is_woken;
 use crate::note::Note;
-use crate::recorded::{Recorded, Recording};
+use crate::recorded::{Asked, Recorded, Recording};
 use crate::seat::StatusSeat;
 use crate::seat_slot::SeatSlot;
 use crate::waking::{WakeScope, turn_after, wakes};
@@ -50,8 +53,8 @@ impl Lasting for Brand {
     fn end() {}
 }
 
-/// Which mainframe it is: its ledger, its board, the panel that it opened with, and its end.
-pub trait History: Ledger + Recording + Lasting {}
+/// Which mainframe it is: its ledger, its board, the panel that it opened with, what is asked of it, and its end.
+pub trait History: Ledger + Recording + Asked + Lasting {}
 
 impl History for Brand {}
 
@@ -61,7 +64,8 @@ const MOST_DESKS: u64 = 1 << 33;
 /// How many events have a note.
 const MOST_NOTES: usize = 64;
 
-/// What is behind the lock. Contracts see the mainframe's panel, how many desks there are, and all events.
+/// What is behind the lock. Contracts see the mainframe's panel and its cards, how many desks there are, and all
+/// events.
 ///
 /// Whenever it is seen, the number of events is the opening number plus the sum of all shares, and the notes are those
 /// of the last 64 entries of the history.
@@ -83,16 +87,17 @@ pub struct Held<H: History, R: Relay, M: Meter> {
 }
 
 impl<H: History, R: Relay, M: Meter> Model for Held<H, R, M> {
-    ghost use Rattle.std.specs.Prelude.{◌≡◌, ◌+◌, IfSome, true};
+    ghost use Rattle.std.specs.Prelude.{◌≡◌, ◌+◌, IfSome, true, ◌⊎◌};
     ghost use Rattle.sw_history.specs.Closing.{EndsAtRest};
     ghost use Rattle.sw_history.specs.Held.{Locked, most_notes, notes_of};
     ghost use Rattle.sw_history.specs.History.{pair_of};
     ghost use Rattle.sw_history.specs.Shares.{all_parts};
 
-    ghost Value = { Locked };
+    ghost Value = { Locked (R ⊎ M) };
 
     ghost view = { λ h. record {
       panel = h.core.panel;
+      cards = h.core.cards;
       given = h.given;
       history = h.core.history;
       turn = h.turn;
@@ -204,7 +209,13 @@ impl<H: History, R: Relay, M: Meter> Held<H, R, M> {
         requires start { (core.panel.events ≡ H.first.events) × (core.history ≡ []) × (events.total ≡ 0) }
         requires pair { H.opening ≡ pair_of H.first }
         requires parts { (spare.parts ≡ all_parts) × (spare.amount ≡ 0) × (H.parts ≡ all_parts) }
-        ensures { IfOk result (λ held. held ≡ record { panel = core.panel; given = 0; history = []; turn = 0 }) }
+        ensures { IfOk result (λ held. held ≡ record {
+          panel = core.panel;
+          cards = core.cards;
+          given = 0;
+          history = [];
+          turn = 0;
+        }) }
     {
         let notes = match HeapCircularBuffer::with_capacity(alloc, MOST_NOTES) {
             Ok(notes) => notes,
@@ -230,6 +241,7 @@ impl<H: History, R: Relay, M: Meter> Held<H, R, M> {
     /// desks, or the end has begun.
     pub fn new_part(&mut self) -> Option<DeskPart<H>>
         ensures panel { (self.new.panel ≡ self.old.panel) × (self.new.history ≡ self.old.history) }
+        ensures cards { self.new.cards ≡ self.old.cards }
         ensures turn { self.new.turn ≡ self.old.turn }
         ensures some { IfSome result (λ p. (p.amount ≡ 0) × (self.new.given ≡ self.old.given + 1)) }
         ensures seat { IfSome result (λ p. (p.seat.seen ≡ self.old.history) × (p.seat.mine ≡ [])) }
@@ -284,11 +296,14 @@ impl<H: History, R: Relay, M: Meter> Held<H, R, M> {
         self.core.events()
     }
 
-    /// Whenever it is seen, its history leads from the opening panel, which was fresh, to this one, which is reached.
+    /// Whenever it is seen, its history leads from the opening panel, which was fresh, to this one, which is reached,
+    /// each meter is one that came, and the panel has the accounts of the cards themselves.
     pub fn has_history(&self)
         ensures leads { IsHistory H.first self.now.history self.now.panel }
         ensures reached { IsReached self.now.panel }
         ensures fresh { IsFresh H.first }
+        ensures came { AllCame H.came self.now.cards }
+        ensures accounts { self.now.panel.cage.cards ≡ accounts_of self.now.cards }
     {
         self.core.has_history();
     }
@@ -403,6 +418,7 @@ impl<H: History, R: Relay, M: Meter> Held<H, R, M> {
         ensures step { let said = E.answered answer.new left.new in Step self.old.panel (E.asked ask)
             (failed_in (E.asked ask) said self.old.panel.cage.cards self.new.panel.cage.cards) said self.new.panel }
         ensures back { E.hands_back ask answer.new }
+        ensures cards { E.keeps self.old.cards ask answer.new left.new self.new.cards }
         ensures event { result ≡ is_event (E.answered answer.new left.new) }
         ensures asked { AsksInHistory H.first self.old.panel part.old.seat
             (event (E.asked ask) (E.answered answer.new left.new) self.new.panel) part.new.seat }
@@ -445,6 +461,7 @@ impl<H: History, R: Relay, M: Meter> Held<H, R, M> {
             (failed_in (ask_seen ask) (answer_seen result) self.old.panel.cage.cards self.new.panel.cage.cards)
             (answer_seen result) self.new.panel }
         ensures back { HandsBack ask result }
+        ensures cards { Keeps self.old.cards ask result self.new.cards }
         ensures asked { AsksInHistory H.first self.old.panel part.old.seat
             (event (ask_seen ask) (answer_seen result) self.new.panel) part.new.seat }
         ensures seen { IsPrefix part.old.seat.seen self.old.history × (part.new.seat.seen ≡ self.new.history) }

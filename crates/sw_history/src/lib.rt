@@ -7,7 +7,7 @@
 //! outside, and leaves the answer where the caller looks. The history leads from the opening panel to the present one,
 //! event by event. The mainframe opened fresh, so the history is a run of the core, and every law over runs holds of it
 //! (`every_history_is_a_run`). Whenever it is seen, the number of events is the opening number plus the sum of all
-//! shares (`Held::number`).
+//! shares (`Held::number`), and each meter is one that came into its slot (`AllCame`).
 //!
 //! The status board is one word, the pair at the end of that history: status byte and number of service requests. A
 //! `StatusSeat` reads it without a lock (`StatusSeat::read`), and has seen a beginning of the history.
@@ -35,6 +35,6 @@ pub use laws::{
     each_event_is_counted, every_history_is_a_run, sessions_stay, whoever_may_go_on_is_woken,
 };
 pub use note::{AskKind, Note};
-pub use recorded::{Recorded, Recording};
+pub use recorded::{Asked, Equipped, Recorded, Recording};
 pub use seat::{LockedPass, StatusSeat};
 pub use seat_slot::SeatSlot;

@@ -9,6 +9,7 @@ ghost use Rattle.sw_serve.specs.Fitting.{IsUnfitted, AreWelcome};
 ghost use Rattle.sw_serve.specs.SlotCards.{cards_seen, relay_seen, meter_seen};
 ghost use Rattle.sw_serve.specs.Serving.{ClosesDown};
 ghost use Rattle.sw_talk.specs.Talk.{turns};
+ghost use Rattle.sw_history.specs.Came.{AllCame};
 ghost use Rattle.sw_history.specs.Closing.{IsOpen, IsClosedDown};
 ghost use Rattle.sw_workers.specs.Connected.{mishaps, connection_seen, RunsSession};
 ghost use Rattle.sw_workers.specs.Work.{DeskPasses, desk_seen};
@@ -91,7 +92,8 @@ pub fn serve_over<
     opening: Opening<R, M>,
     gate: G,
 ) -> Result<Closed<R, M>, AllocError>
-    requires first { (opening.core ≡ H.first) × IsFresh opening.core }
+    requires first { (opening.core.seen ≡ H.first) × IsFresh opening.core.seen }
+    requires came { AllCame H.came opening.core.cards }
     requires ledger { (opening.blank.name ≡ H.name) × (opening.blank.parts ≡ H.parts) }
     requires board { (opening.board.table.shared.table_id ≡ H.table)
         × (opening.board.table.shared.key ≡ H.opening) }
@@ -101,6 +103,7 @@ pub fn serve_over<
         IsClosedDown H.first closed.events (accounts_of closed.cards.items)) }
     ensures open { IfOk result (λ closed.
         All (λ slot. IfSome slot (λ card. IsOpen card.1)) closed.cards.items) }
+    ensures came { IfOk result (λ closed. AllCame H.came closed.cards.items) }
     ensures taken { OnOk result (TakesUpTo limit (P.taken port.old) (P.taken port.new) (P.ended port.new)) }
 {
     let (shared, receivers) = Shared::<H, R, M, G>::new(alloc, opening, gate)?;
@@ -170,6 +173,7 @@ fn closed_down<H: Mainframe, R: Relay, M: Meter, G: Gate + Drop, W: Wait + Clock
         IsClosedDown H.first closed.events (accounts_of closed.cards.items)) }
     ensures open { IfOk result (λ closed.
         All (λ slot. IfSome slot (λ card. IsOpen card.1)) closed.cards.items) }
+    ensures came { IfOk result (λ closed. AllCame H.came closed.cards.items) }
 {
     match close_down(rt, alloc, shared, desks) {
         Ok(closed) => Ok(closed),

@@ -2,6 +2,8 @@
 
 ghost use Rattle.std.specs.Prelude.{◌≡◌, IfOk, IfErr};
 ghost use Rattle.sw_core.specs.Panel.{opening};
+ghost use Rattle.sw_core.specs.declared.ask.SessionAnswer.TheVariants.{Joined};
+ghost use Rattle.sw_core.specs.declared.ask.Sid.{Sid};
 ghost use Rattle.sw_serve.specs.Fitting.{IsUnfittedForOne, AreWelcome};
 ghost use Rattle.sw_serve.specs.SlotCards.{cards_seen, relay_seen, meter_seen, Joins, IsSetUp, IsDeskForOne};
 
@@ -9,7 +11,7 @@ use crate::slot_card::{SlotCard, install_all};
 use crate::unfit::FitError;
 use std::alloc::Global;
 use sw_card::{Meter, Relay};
-use sw_core::{Answer, Ask, Core, SessionAnswer, SessionAsk, Sid};
+use sw_core::{Core, SessionAnswer, SessionAsk, Sid};
 use sw_session::CoreDesk;
 
 /// The desk over a mainframe that one session has joined and that took each of these cards, and that session: a
@@ -37,7 +39,7 @@ fn set_up<R: Relay, M: Meter>(
     cards: Vec<SlotCard<R, M>>,
 ) -> Result<(Core<R, M>, Sid), FitError>
     ensures set_up { IfOk result (λ x. IsSetUp (cards_seen (relay_seen R.the_serial R.failed R.groups R.closed)
-        (meter_seen M.the_serial M.failed M.last_reading) cards.items) x.1 x.0) }
+        (meter_seen M.the_serial M.failed M.last_reading) cards.items) x.1 x.0.seen) }
     ensures refused { IfErr result (λ error. IsUnfittedForOne (cards_seen
         (relay_seen R.the_serial R.failed R.groups R.closed)
         (meter_seen M.the_serial M.failed M.last_reading) cards.items) error) }
@@ -56,11 +58,25 @@ fn set_up<R: Relay, M: Meter>(
 
 /// Joins the opening mainframe.
 fn join<R: Relay, M: Meter>(alloc: Global, core: &mut Core<R, M>) -> Sid
-    requires { core.old ≡ opening }
-    ensures { Joins result core.new }
+    requires { core.old.seen ≡ opening }
+    ensures { Joins result core.new.seen }
 {
-    match core.apply(alloc, Ask::Session(SessionAsk::Join)) {
-        Answer::Session(SessionAnswer::Joined(sid), _) => sid,
+    let mut answer = SessionAnswer::Stranger;
+    let mut work = None;
+    core.ask(alloc, SessionAsk::Join, &mut answer, &mut work);
+    drop(work);
+    let sid = joined(&answer);
+    drop(answer);
+    sid
+}
+
+/// The session that has joined by this answer.
+fn joined(answer: &SessionAnswer) -> Sid
+    requires { (sid : Sid) × (answer.now ≡ Joined sid) }
+    ensures { answer.now ≡ Joined result }
+{
+    match answer {
+        SessionAnswer::Joined(sid) => *sid,
         _ => unreachable!(),
     }
 }

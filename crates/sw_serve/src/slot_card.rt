@@ -71,9 +71,9 @@ fn install_one<R: Relay, M: Meter>(
     slot: u8,
     card: Card<R, M>,
 ) -> Result<(), InstallRefusal>
-    requires { core.old.events < last_number }
-    ensures taken { OnOk result (Takes core.old (placed slot card.1) core.new) }
-    ensures refused { IfErr result (λ why. RefusesInstall core.old.cage slot card.1 why) }
+    requires { core.old.seen.events < last_number }
+    ensures taken { OnOk result (Takes core.old.seen (placed slot card.1) core.new.seen) }
+    ensures refused { IfErr result (λ why. RefusesInstall core.old.seen.cage slot card.1 why) }
 {
     match core.apply(alloc, Ask::Install(slot, card)) {
         Answer::Installed => Ok(()),
@@ -88,11 +88,11 @@ pub(crate) fn install_all<R: Relay, M: Meter>(
     core: &mut Core<R, M>,
     cards: Vec<SlotCard<R, M>>,
 ) -> Result<(), (u8, InstallRefusal)>
-    requires { core.old.events ≤ 1 }
-    ensures taken { OnOk result (TakesCards core.old (cards_seen
+    requires { core.old.seen.events ≤ 1 }
+    ensures taken { OnOk result (TakesCards core.old.seen (cards_seen
         (relay_seen R.the_serial R.failed R.groups R.closed)
-        (meter_seen M.the_serial M.failed M.last_reading) cards.items) core.new) }
-    ensures refused { IfErr result (λ refused. RefusesCard core.old (cards_seen
+        (meter_seen M.the_serial M.failed M.last_reading) cards.items) core.new.seen) }
+    ensures refused { IfErr result (λ refused. RefusesCard core.old.seen (cards_seen
         (relay_seen R.the_serial R.failed R.groups R.closed)
         (meter_seen M.the_serial M.failed M.last_reading) cards.items) refused.0 refused.1) }
 {
@@ -113,8 +113,8 @@ pub fn fit<R: Relay, M: Meter>(
 ) -> Result<Core<R, M>, FitError>
     ensures fitted { IfOk result (λ core. IsFitted (cards_seen
         (relay_seen R.the_serial R.failed R.groups R.closed)
-        (meter_seen M.the_serial M.failed M.last_reading) cards.items) core) }
-    ensures fresh { IfOk result (λ core. IsFresh core) }
+        (meter_seen M.the_serial M.failed M.last_reading) cards.items) core.seen) }
+    ensures fresh { IfOk result (λ core. IsFresh core.seen) }
     ensures refused { IfErr result (λ error. IsUnfitted opening (cards_seen
         (relay_seen R.the_serial R.failed R.groups R.closed)
         (meter_seen M.the_serial M.failed M.last_reading) cards.items) error) }

@@ -39,7 +39,7 @@ impl<R: Relay, M: Meter> Model for CoreDesk<R, M> {
     ghost Value = { DeskSeen };
 
     ghost view = { λ d. record {
-      panel = d.core;
+      panel = d.core.seen;
       work = d.work.pieces;
       room = d.work.room;
       available = d.available;
@@ -49,7 +49,7 @@ impl<R: Relay, M: Meter> Model for CoreDesk<R, M> {
 impl<R: Relay, M: Meter> CoreDesk<R, M> {
     /// A desk over this mainframe, with no work, room for one piece, and no message available.
     pub fn new(alloc: Global, core: Core<R, M>) -> Self
-        ensures { result ≡ desk_over core }
+        ensures { result ≡ desk_over core.seen }
     {
         CoreDesk {
             alloc,

@@ -28,10 +28,11 @@ pub struct BehindLock<H: Mainframe, R: Relay, M: Meter> {
 }
 
 impl<H: Mainframe, R: Relay, M: Meter> Model for BehindLock<H, R, M> {
+    ghost use Rattle.std.specs.Prelude.{◌⊎◌};
     ghost use Rattle.sw_history.specs.Held.{Locked};
     ghost use Rattle.sw_workers.specs.Halves.{AreJoined};
 
-    ghost Value = { Locked };
+    ghost Value = { Locked (R ⊎ M) };
 
     ghost view = { λ l. l.held };
 

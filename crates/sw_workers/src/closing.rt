@@ -5,7 +5,9 @@ ghost use Rattle.std.specs.Vec.{vec_capacity};
 ghost use Rattle.sw_base.specs.Layout.{slot_at};
 ghost use Rattle.sw_base.specs.Limits.{most_slots};
 ghost use Rattle.sw_cage.specs.Accounts.{option_account, accounts_of, all_open};
+ghost use Rattle.sw_cage.specs.Cards.{meters_of, meter_only};
 ghost use Rattle.sw_core.specs.Good.{IsGoodPanel};
+ghost use Rattle.sw_history.specs.Came.{AllCame};
 ghost use Rattle.sw_history.specs.Closing.{IsOpen, IsClosedDown};
 ghost use Rattle.sw_workers.specs.Halves.{StayJoined};
 
@@ -32,7 +34,7 @@ pub struct Closed<R: Relay, M: Meter> {
 }
 
 /// Ends a mainframe, where the caller gives every desk back, every relay was opened and no session has asked since.
-/// Else, where a desk is missing, or there is no memory, it gives back what it was given, and changes nothing.
+/// Each meter is the very card that came into its slot last. Else, where a desk is missing, or there is no memory, it gives back what it was given, and changes nothing.
 pub fn close_down<H: Mainframe, R: Relay, M: Meter, G: Gate + Drop, W: Wait + Clock + Copy + Drop>(
     rt: &W,
     alloc: Global,
@@ -49,6 +51,7 @@ pub fn close_down<H: Mainframe, R: Relay, M: Meter, G: Gate + Drop, W: Wait + Cl
         closed.events ≡ H.first.events + sum_by (λ desk. desk.part.amount) desks.items) }
     ensures cards { IfOk result (λ closed.
         IsClosedDown H.first closed.events (accounts_of closed.cards.items)) }
+    ensures came { IfOk result (λ closed. AllCame H.came closed.cards.items) }
     ensures open { IfOk result (λ closed.
         All (λ slot. IfSome slot (λ card. IsOpen card.1)) closed.cards.items) }
     ensures back { IfErr result (λ back. back.1.items ≡ desks.items) }
@@ -73,6 +76,8 @@ pub fn close_held<H: Mainframe, R: Relay, M: Meter, G: Gate + Drop, W: Wait + Cl
         closed.events ≡ H.first.events + sum_by (λ desk. desk.part.amount) desks.items) }
     ensures cards { IfOk result (λ closed.
         IsClosedDown H.first closed.events (accounts_of closed.cards.items)) }
+    ensures came { IfOk result (λ closed. AllCame H.came closed.cards.items) }
+    ensures meters { IfOk result (λ closed. meters_of closed.cards.items ≡ meters_of held.old.cards) }
     ensures back { IfErr result (λ back. back.items ≡ desks.items) }
     ensures joined { StayJoined held.old.panel held.new.panel }
 {
@@ -90,7 +95,8 @@ pub fn close_held<H: Mainframe, R: Relay, M: Meter, G: Gate + Drop, W: Wait + Cl
     Ok(Closed { events, cards })
 }
 
-/// Takes the cards out of their slots, with nothing closed. Where a slot gives none, there is none at its place.
+/// Takes the cards out of their slots, with nothing closed: the very meters that are there. Where a slot gives none,
+/// there is none at its place.
 fn take_cards<H: Mainframe, R: Relay, M: Meter>(
     held: &mut Held<H, R, M>,
     part: &mut DeskPart<H>,
@@ -98,6 +104,7 @@ fn take_cards<H: Mainframe, R: Relay, M: Meter>(
 ) -> Vec<Option<Card<R, M>>>
     requires room { (room.items ≡ []) × (most_slots ≤ vec_capacity room) }
     ensures cards { accounts_of result.items ≡ all_open held.old.panel.cage.cards }
+    ensures meters { meters_of result.items ≡ meters_of held.old.cards }
     ensures joined { StayJoined held.old.panel held.new.panel }
 {
     let mut cards = room;
@@ -113,7 +120,8 @@ fn take_cards<H: Mainframe, R: Relay, M: Meter>(
 
 /// What is behind the lock is good.
 fn is_good<H: Mainframe, R: Relay, M: Meter>(held: &Held<H, R, M>)
-    ensures { IsGoodPanel held.now.panel }
+    ensures good { IsGoodPanel held.now.panel }
+    ensures accounts { held.now.panel.cage.cards ≡ accounts_of held.now.cards }
 {
     runs_go_on();
     held.has_history();
@@ -130,6 +138,8 @@ fn take_out<H: Mainframe, R: Relay, M: Meter>(
     ensures card { option_account result ≡ slot_at (all_open held.old.panel.cage.cards) slot }
     ensures others { all_open held.new.panel.cage.cards
         ≡ slice_set (all_open held.old.panel.cage.cards) (slot - 1) None }
+    ensures meter { meter_only result ≡ slot_at (meters_of held.old.cards) slot }
+    ensures meters { meters_of held.new.cards ≡ slice_set (meters_of held.old.cards) (slot - 1) None }
     ensures joined { StayJoined held.old.panel held.new.panel }
 {
     runs_go_on();

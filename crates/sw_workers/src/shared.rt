@@ -6,6 +6,7 @@ ghost use Rattle.sw_base.specs.Limits.{most_sessions, most_slots};
 ghost use Rattle.sw_cage.specs.Accounts.{accounts_of};
 ghost use Rattle.sw_core.specs.Opening.{IsFresh};
 ghost use Rattle.sw_talk.specs.CoreDesk.{piece_seen};
+ghost use Rattle.sw_history.specs.Came.{AllCame};
 ghost use Rattle.sw_history.specs.Closing.{IsClosedDown};
 ghost use Rattle.sw_history.specs.History.{pair_of};
 ghost use Rattle.sw_history.specs.Opened.{OpensAll};
@@ -48,13 +49,13 @@ pub struct Opening<R: Relay, M: Meter> {
     /// Its status board, with the core's pair.
     pub board: BlankBoard,
     pub ghost whole: { blank.parts ≡ all_parts },
-    pub ghost pair: { board.table.shared.key ≡ pair_of core },
+    pub ghost pair: { board.table.shared.key ≡ pair_of core.seen },
 }
 
 impl<R: Relay, M: Meter> Opening<R, M> {
     /// A mainframe with a new ledger and a new board.
     pub fn new(alloc: Global, core: Core<R, M>) -> Result<Self, AllocError>
-        requires { IsFresh core }
+        requires { IsFresh core.seen }
         ensures { IfOk result (λ opening. opening.core ≡ core) }
     {
         runs_go_on();
@@ -118,8 +119,9 @@ fn behind_lock<H: Mainframe, R: Relay, M: Meter>(
     alloc: Global,
     opening: Opening<R, M>,
 ) -> Result<(Held<H, R, M>, Arc<StatusBoard<H>, Global>), AllocError>
-    requires first { opening.core ≡ H.first }
-    requires fresh { IsFresh opening.core }
+    requires first { opening.core.seen ≡ H.first }
+    requires fresh { IsFresh opening.core.seen }
+    requires came { AllCame H.came opening.core.cards }
     requires ledger { (opening.blank.name ≡ H.name) × (opening.blank.parts ≡ H.parts) }
     requires board { (opening.board.table.shared.table_id ≡ H.table)
         × (opening.board.table.shared.key ≡ H.opening) }
@@ -170,8 +172,9 @@ impl<H: Mainframe, R: Relay, M: Meter, G: Gate + Drop> Shared<H, R, M, G> {
         opening: Opening<R, M>,
         gate: G,
     ) -> Result<(Self, WorkReceivers<M>), AllocError>
-        requires first { opening.core ≡ H.first }
-        requires fresh { IsFresh opening.core }
+        requires first { opening.core.seen ≡ H.first }
+        requires fresh { IsFresh opening.core.seen }
+        requires came { AllCame H.came opening.core.cards }
         requires ledger { (opening.blank.name ≡ H.name) × (opening.blank.parts ≡ H.parts) }
         requires board { (opening.board.table.shared.table_id ≡ H.table)
             × (opening.board.table.shared.key ≡ H.opening) }
@@ -339,7 +342,7 @@ impl<H: Mainframe, R: Relay, M: Meter, G: Gate + Drop> Shared<H, R, M, G> {
 
     /// Closes down, where all is at rest: the caller gives every desk back. Under one lock it gives the number of
     /// events, which is the opening number plus all that the shares counted, and takes the cards out of their slots,
-    /// with nothing closed. Else it gives the desks back.
+    /// with nothing closed. Each meter is one that came into its slot. Else it gives the desks back.
     pub fn close_down<W: Wait + Clock + Copy + Drop>(
         &self,
         rt: &W,
@@ -351,6 +354,7 @@ impl<H: Mainframe, R: Relay, M: Meter, G: Gate + Drop> Shared<H, R, M, G> {
             closed.events ≡ H.first.events + sum_by (λ desk. desk.part.amount) desks.items) }
         ensures cards { IfOk result (λ closed.
             IsClosedDown H.first closed.events (accounts_of closed.cards.items)) }
+        ensures came { IfOk result (λ closed. AllCame H.came closed.cards.items) }
         ensures back { IfErr result (λ back. back.items ≡ desks.items) }
     {
         let mut guard = self.locked.lock(rt);

@@ -2,6 +2,7 @@
 
 ghost use Rattle.std.specs.Prelude.{◌≡◌, IfSome};
 ghost use Rattle.sw_core.specs.Opening.{IsFresh};
+ghost use Rattle.sw_history.specs.Came.{AllCame};
 
 use crate::shop::{come_out, fitted, install, join, opened, tells};
 use std::alloc::Global;
@@ -16,7 +17,7 @@ use sw_workers::{Closed, Mainframe, Open, Opening, Shared, SharedDesk, close_dow
 
 /// A mainframe with relay cards in slots 1 and 3 and a meter in slot 16. It is fresh.
 fn spread(alloc: Global) -> Option<Core<Mux<SimDriver>, Volt<SimSource>>>
-    ensures { IfSome result (λ core. IsFresh core) }
+    ensures { IfSome result (λ core. IsFresh core.seen) }
 {
     let Ok(core) = Core::new(alloc) else {
         return None;
@@ -54,7 +55,8 @@ fn closed_after<H: Mainframe, R: Relay, M: Meter, W: Wait + Clock + Copy + Drop>
     message: &[u8],
     ending: Ending,
 ) -> Option<Closed<R, M>>
-    requires first { (opening.core ≡ H.first) × IsFresh opening.core }
+    requires first { (opening.core.seen ≡ H.first) × IsFresh opening.core.seen }
+    requires came { AllCame H.came opening.core.cards }
     requires ledger { (opening.blank.name ≡ H.name) × (opening.blank.parts ≡ H.parts) }
     requires board { (opening.board.table.shared.table_id ≡ H.table) × (opening.board.table.shared.key ≡ H.opening) }
 {
@@ -86,7 +88,7 @@ fn leaves<W: Wait + Clock + Copy + Drop>(
     serials: &[u32; 16],
     ending: Ending,
 ) -> bool
-    requires { IsFresh core }
+    requires { IsFresh core.seen }
 {
     let Ok(opening) = Opening::new(alloc, core) else {
         return false;

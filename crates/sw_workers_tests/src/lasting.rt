@@ -2,6 +2,7 @@
 
 ghost use Rattle.std.specs.Prelude.{◌≡◌};
 ghost use Rattle.sw_core.specs.Opening.{IsFresh};
+ghost use Rattle.sw_history.specs.Came.{AllCame};
 
 use crate::shop::{fitted, join, played, tells};
 use crate::threads::{Scene, TRIGGERED};
@@ -96,7 +97,8 @@ fn goes_alone<H: Mainframe, R: Relay, M: Meter, W: Wait + Clock + Copy + Drop>(
     opening: Opening<R, M>,
     alone: Alone,
 ) -> bool
-    requires first { (opening.core ≡ H.first) × IsFresh opening.core }
+    requires first { (opening.core.seen ≡ H.first) × IsFresh opening.core.seen }
+    requires came { AllCame H.came opening.core.cards }
     requires ledger { (opening.blank.name ≡ H.name) × (opening.blank.parts ≡ H.parts) }
     requires board { (opening.board.table.shared.table_id ≡ H.table) × (opening.board.table.shared.key ≡ H.opening) }
 {

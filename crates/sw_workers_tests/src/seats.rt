@@ -2,6 +2,7 @@
 
 ghost use Rattle.std.specs.Prelude.{◌≡◌};
 ghost use Rattle.sw_core.specs.Opening.{IsFresh};
+ghost use Rattle.sw_history.specs.Came.{AllCame};
 
 use crate::board::{holds, reads};
 use crate::shop::fitted;
@@ -51,7 +52,8 @@ fn joined<R: Relay, M: Meter>(answer: &Answer<R, M>) -> Option<Sid> {
 impl<H: Mainframe, R: Relay, M: Meter> Scene<H, R, M> {
     /// A mainframe with two sessions.
     fn open(alloc: Global, opening: Opening<R, M>) -> Option<Self>
-        requires first { (opening.core ≡ H.first) × IsFresh opening.core }
+        requires first { (opening.core.seen ≡ H.first) × IsFresh opening.core.seen }
+        requires came { AllCame H.came opening.core.cards }
         requires ledger { (opening.blank.name ≡ H.name) × (opening.blank.parts ≡ H.parts) }
         requires board { (opening.board.table.shared.table_id ≡ H.table)
             × (opening.board.table.shared.key ≡ H.opening) }
@@ -136,7 +138,8 @@ fn play<
     M: Meter + Send,
     W: Threads + Wait + Abort + Sync,
 >(rt: &W, alloc: Global, opening: Opening<R, M>)
-    requires first { (opening.core ≡ H.first) × IsFresh opening.core }
+    requires first { (opening.core.seen ≡ H.first) × IsFresh opening.core.seen }
+    requires came { AllCame H.came opening.core.cards }
     requires ledger { (opening.blank.name ≡ H.name) × (opening.blank.parts ≡ H.parts) }
     requires board { (opening.board.table.shared.table_id ≡ H.table) × (opening.board.table.shared.key ≡ H.opening) }
 {

@@ -2,6 +2,7 @@
 
 ghost use Rattle.std.specs.Prelude.{◌≡◌};
 ghost use Rattle.sw_core.specs.Opening.{IsFresh};
+ghost use Rattle.sw_history.specs.Came.{AllCame};
 
 use crate::asides::{aborts_a_pause, both_leave, leaves_two};
 use crate::shop::{Shop, fitted, join_both};
@@ -376,7 +377,8 @@ fn play_behind<
     G: Gate + Drop + Send + Sync + 'static,
     W: Threads + Wait + Clock + Copy + Drop + Send + Sync + 'static,
 >(rt: W, alloc: Global, opening: Opening<R, M>, gate: G, crowd: u8, play: Play) -> bool
-    requires first { (opening.core ≡ H.first) × IsFresh opening.core }
+    requires first { (opening.core.seen ≡ H.first) × IsFresh opening.core.seen }
+    requires came { AllCame H.came opening.core.cards }
     requires ledger { (opening.blank.name ≡ H.name) × (opening.blank.parts ≡ H.parts) }
     requires board { (opening.board.table.shared.table_id ≡ H.table) × (opening.board.table.shared.key ≡ H.opening) }
 {

@@ -5,6 +5,7 @@
 ghost use Rattle.std.specs.Prelude.{◌≡◌, IfSome};
 ghost use Rattle.sw_core.specs.Opening.{IsFresh};
 ghost use Rattle.sw_core.specs.Panel.{opening};
+ghost use Rattle.sw_history.specs.Came.{AllCame};
 
 use crate::latches::{TURNS, turn};
 use crate::threads::Scene;
@@ -31,8 +32,8 @@ pub fn install<R: Relay, M: Meter>(
     slot: u8,
     card: Card<R, M>,
 ) -> bool
-    requires { IsFresh core.old }
-    ensures { IsFresh core.new }
+    requires { IsFresh core.old.seen }
+    ensures { IsFresh core.new.seen }
 {
     runs_go_on();
     let answer = core.apply(alloc, Ask::Install(slot, card));
@@ -43,8 +44,8 @@ pub fn install<R: Relay, M: Meter>(
 
 /// A mainframe as it opens, which is fresh.
 pub fn opened<R: Relay, M: Meter>(core: Core<R, M>) -> Core<R, M>
-    requires { core ≡ opening }
-    ensures { IsFresh result }
+    requires { core.seen ≡ opening }
+    ensures { IsFresh result.seen }
 {
     runs_go_on();
     core
@@ -56,7 +57,7 @@ pub fn fitted<D: Driver, S: Source>(
     driver: D,
     source: S,
 ) -> Option<Core<Mux<D>, Volt<S>>>
-    ensures { IfSome result (λ core. IsFresh core) }
+    ensures { IfSome result (λ core. IsFresh core.seen) }
 {
     let Ok(core) = Core::new(alloc) else {
         return None;
@@ -99,7 +100,8 @@ impl<
 > Shop<H, R, M, G, W> {
     /// Puts a mainframe behind its lock, with its workers.
     pub fn open(rt: W, alloc: Global, opening: Opening<R, M>, gate: G) -> Option<Self>
-        requires first { (opening.core ≡ H.first) × IsFresh opening.core }
+        requires first { (opening.core.seen ≡ H.first) × IsFresh opening.core.seen }
+        requires came { AllCame H.came opening.core.cards }
         requires ledger { (opening.blank.name ≡ H.name) × (opening.blank.parts ≡ H.parts) }
         requires board { (opening.board.table.shared.table_id ≡ H.table)
             × (opening.board.table.shared.key ≡ H.opening) }
@@ -240,7 +242,8 @@ fn play_behind<
     G: Gate + Drop + Send + Sync + 'static,
     W: Threads + Wait + Clock + Copy + Drop + Send + Sync + 'static,
 >(rt: W, alloc: Global, opening: Opening<R, M>, gate: G, scene: &Scene<W>) -> Option<Note>
-    requires first { (opening.core ≡ H.first) × IsFresh opening.core }
+    requires first { (opening.core.seen ≡ H.first) × IsFresh opening.core.seen }
+    requires came { AllCame H.came opening.core.cards }
     requires ledger { (opening.blank.name ≡ H.name) × (opening.blank.parts ≡ H.parts) }
     requires board { (opening.board.table.shared.table_id ≡ H.table) × (opening.board.table.shared.key ≡ H.opening) }
 {

@@ -1,7 +1,7 @@
 use Rattle.sw_serve.proofs.serving.serve_cards.Given as goal
 
 abbrev pub ghosts-serve_over-H-Recording : goal.ghosts-serve_over-H-Recording
-ghosts-serve_over-H-Recording g a = record { first = a.opening.core }
+ghosts-serve_over-H-Recording g a = record { first = a.opening.core.seen }
 
 abbrev pub ghosts-serve_over-H-BoardName : goal.ghosts-serve_over-H-BoardName
 ghosts-serve_over-H-BoardName g a = record {

@@ -8,16 +8,16 @@ use Rattle.sw_serve.proofs.slot_card.fit.Goals as goal
 
 pub returns-in-Err-clause-welcome : goal.returns-in-Err-clause-welcome
 returns-in-Err-clause-welcome g c = λ welcome.
-    absurd (never_refused c.in_ok-core.core _ c.in-Err.slot c.in-Err.why
-    (bare_like _ _ (ap (λ (x : Panel). x.cage) c.in_ok-core.ensures) bare_opening) welcome c.in-Err.ensures.refused)
+    absurd (never_refused c.in_ok-core.core.seen _ c.in-Err.slot c.in-Err.why
+    (bare_like _ _ (ap (λ (x : Panel). x.cage) c.in_ok-core.ensures.seen) bare_opening) welcome c.in-Err.ensures.refused)
 
 pub returns-clause-fitted : goal.returns-clause-fitted
-returns-clause-fitted g c = fitted c.in_ok-core.core c.install_all.new.core _ c.in_ok-core.ensures c.in_default.ensures.taken
+returns-clause-fitted g c = fitted c.in_ok-core.core.seen c.install_all.new.core.seen _ c.in_ok-core.ensures.seen c.in_default.ensures.taken
 
 pub returns-clause-fresh : goal.returns-clause-fresh
 returns-clause-fresh g c =
     let law = c.runs_go_on.ensures in
-    let made = subst IsFresh (sym c.in_ok-core.ensures) (law.made 0 0) in
+    let made = subst IsFresh (sym c.in_ok-core.ensures.seen) (law.made 0 0) in
     let cards = cards_seen (relay_seen g.R.Board.the_serial g.R.Board.failed g.R.Relay.groups g.R.Relay.closed)
     (meter_seen g.M.Board.the_serial g.M.Board.failed g.M.Meter.last_reading) c.args.cards.items in
-    fresh-cards law c.in_ok-core.core c.install_all.new.core cards c.in_default.ensures.taken made
+    fresh-cards law c.in_ok-core.core.seen c.install_all.new.core.seen cards c.in_default.ensures.taken made

@@ -38,6 +38,6 @@ returns-clause-taken g c =
     let b = c.into_iter-placed-iterator.ensures.into_iter_gives in
     let all = YieldsList-end (YieldsList-from_vec c.args.cards.items b.0 (b.1 ∙ c.args.cards.ok.0)) c.loop-placed.yielded c.loop-placed.placed-iterator
     c.loop-placed.yielded_by c.next.result c.next.new.self c.in-None.is c.next.ensures.steps in
-    subst (λ l. TakesCards c.args.core.now (cards_seen (relay_seen g.R.Board.the_serial g.R.Board.failed g.R.Relay.groups g.R.Relay.closed)
-    (meter_seen g.M.Board.the_serial g.M.Board.failed g.M.Meter.last_reading) l) c.loop-placed.core) (sym (map-id c.loop-placed.yielded) ∙ all.0)
+    subst (λ l. TakesCards c.args.core.now.seen (cards_seen (relay_seen g.R.Board.the_serial g.R.Board.failed g.R.Relay.groups g.R.Relay.closed)
+    (meter_seen g.M.Board.the_serial g.M.Board.failed g.M.Meter.last_reading) l) c.loop-placed.core.seen) (sym (map-id c.loop-placed.yielded) ∙ all.0)
     c.loop-placed.invariant.takes

@@ -46,11 +46,11 @@ returns-clause-opened g c =
     let first = c.runs_go_on.ensures.good p c.has_history.ensures.reached in
     let good = c.runs_go_on.ensures.good m c.has_history-2.ensures.reached in
     let so = subst (λ (n : ℕ). IsSoFar p n m) last c.loop-before.invariant.so_far in
-    let noted = ap (λ (l : Locked). l.panel) c.note_opened.ensures in
-    subst (λ (x : Panel). IsOpened p x) (sym (ap (λ (l : Locked). l.panel) c.take_turn.ensures ∙ noted))
+    let noted = ap (λ (l : Locked _). l.panel) c.note_opened.ensures in
+    subst (λ (x : Panel). IsOpened p x) (sym (ap (λ (l : Locked _). l.panel) c.take_turn.ensures ∙ noted))
     (all_opened p m good.good.held.slots first.good.held.slots so)
 
 pub returns-clause-joined : goal.returns-clause-joined
 returns-clause-joined g c =
-    let noted = ap (λ (l : Locked). l.panel) c.note_opened.ensures in
-    subst (λ (x : Panel). StayJoined c.args.held.now.panel x) (sym (ap (λ (l : Locked). l.panel) c.take_turn.ensures ∙ noted)) c.loop-before.invariant.joined
+    let noted = ap (λ (l : Locked _). l.panel) c.note_opened.ensures in
+    subst (λ (x : Panel). StayJoined c.args.held.now.panel x) (sym (ap (λ (l : Locked _). l.panel) c.take_turn.ensures ∙ noted)) c.loop-before.invariant.joined

@@ -8,6 +8,6 @@ returns g c =
     let e : Event = record {
       ask = AskInstall c.args.slot c.args.card.1;
       answer = answer_seen c.apply-answer.result;
-      panel = c.apply-answer.new.self;
+      panel = c.apply-answer.new.self.seen;
     } in
-    c.runs_go_on.ensures.installed c.args.core.now e c.requires refl (record { own = c.apply-answer.ensures.own; step = c.apply-answer.ensures.step })
+    c.runs_go_on.ensures.installed c.args.core.now.seen e c.requires refl (record { own = c.apply-answer.ensures.own; step = c.apply-answer.ensures.step })

@@ -6,8 +6,8 @@ use Rattle.sw_core.specs.Step.{acts_unnumbered}
 use Rattle.sw_core.proofs.NumberedLemmas.{worn_step}
 use Rattle.sw_core.proofs.state.Core.ask.Goals as goal
 
-pub returns-then-not-session_acts_unnumbered : goal.returns-then-not-session_acts_unnumbered
-returns-then-not-session_acts_unnumbered g c =
-    let last : (c.args.self.now.events == last_number) ≡ true = grind arith in
+pub returns-then-not-session_acts_unnumbered-clause-step : goal.returns-then-not-session_acts_unnumbered-clause-step
+returns-then-not-session_acts_unnumbered-clause-step g c =
+    let last : (c.args.self.now.seen.events == last_number) ≡ true = grind arith in
     let shut : acts_unnumbered (AskSession c.args.ask) ≡ false = grind arith in
-    rw (c.requires, c.hand_back.ensures) (worn_step c.args.self.now (AskSession c.args.ask) (SaysSession (Worn c.args.ask) None) last shut refl)
+    rw (c.requires, c.hand_back.ensures) (worn_step c.args.self.now.seen (AskSession c.args.ask) (SaysSession (Worn c.args.ask) None) last shut refl)

@@ -7,9 +7,9 @@ use Rattle.sw_core.specs.Step.{acts_unnumbered}
 use Rattle.sw_core.proofs.NumberedLemmas.{worn_step}
 use Rattle.sw_core.proofs.state.Core.ask_unit.Goals as goal
 
-pub returns-then-not-is_abort : goal.returns-then-not-is_abort
-returns-then-not-is_abort g c =
+pub returns-then-not-is_abort-clause-step : goal.returns-then-not-is_abort-clause-step
+returns-then-not-is_abort-clause-step g c =
     let ask = AskSession (Unit c.args.sid c.args.command c.args.available) in
-    let last : (c.args.self.now.events == last_number) ≡ true = grind arith in
+    let last : (c.args.self.now.seen.events == last_number) ≡ true = grind arith in
     let shut : acts_unnumbered ask ≡ false = grind arith in
-    rw (c.requires, c.hand_unit_back.ensures) (worn_step c.args.self.now ask (SaysSession (Worn (Unit c.args.sid c.args.command c.args.available)) None) last shut refl)
+    rw (c.requires, c.hand_unit_back.ensures) (worn_step c.args.self.now.seen ask (SaysSession (Worn (Unit c.args.sid c.args.command c.args.available)) None) last shut refl)

@@ -9,11 +9,12 @@ use Rattle.sw_cage.proofs.CardLemmas.{seen_is}
 use Rattle.sw_core.specs.Panel.{Panel}
 use Rattle.sw_core.specs.Registers.{card_fault_reported, card_fault_cleared}
 use Rattle.sw_core.specs.Step.{MayScan, snapshot_of}
+use Rattle.sw_core.proofs.CardsLemmas.{seen_is as panel_is}
 use Rattle.sw_core.proofs.HappenedLemmas.{unbegun, started}
 use Rattle.sw_core.proofs.state.Core.begin.Goals as goal
 
-pub returns-in-Err : goal.returns-in-Err
-returns-in-Err g c =
+pub returns-in-Err-clause-step : goal.returns-in-Err-clause-step
+returns-in-Err-clause-step g c =
     let p : Panel = record {
       cage = c.self.inside.cage.seen;
       sessions = c.self.inside.sessions;
@@ -23,10 +24,10 @@ returns-in-Err g c =
       events = c.self.inside.events;
     } in
     rw (c.requires.empty, ← c.self.view_is) (unbegun p c.args.plan c.start.new.self.seen (seen_is c.in-Err.ensures.err) (subst (λ (x : Panel).
-    MayScan x) (sym c.self.view_is) c.requires.may) (subst (λ (x : Panel). c.args.plan ≡ snapshot_of x) (sym c.self.view_is) c.requires.same))
+    MayScan x) (sym (panel_is c.self.view_is)) c.requires.may) (subst (λ (x : Panel). c.args.plan ≡ snapshot_of x) (sym (panel_is c.self.view_is)) c.requires.same))
 
-pub returns-in-Ok : goal.returns-in-Ok
-returns-in-Ok g c =
+pub returns-in-Ok-clause-step : goal.returns-in-Ok-clause-step
+returns-in-Ok-clause-step g c =
     let p : Panel = record {
       cage = c.self.inside.cage.seen;
       sessions = c.self.inside.sessions;
@@ -35,7 +36,7 @@ returns-in-Ok g c =
       opc_waits = c.self.inside.opc_waits;
       events = c.self.inside.events;
     } in
-    let same : c.args.plan ≡ snapshot_of p = subst (λ (x : Panel). c.args.plan ≡ snapshot_of x) (sym c.self.view_is) c.requires.same in
+    let same : c.args.plan ≡ snapshot_of p = subst (λ (x : Panel). c.args.plan ≡ snapshot_of x) (sym (panel_is c.self.view_is)) c.requires.same in
     let goes : Advances (begun p.cage) (course_of p.settings) 0 (taken_seen c.in-Ok.told) c.start.new.self.seen =
     subst (λ (x : CourseSeen). Advances (begun p.cage) x 0 (taken_seen c.in-Ok.told) c.start.new.self.seen)
     (c.into_course.ensures.course ∙ ap (λ (x : Snapshot). course_of x.settings) same) c.in-Ok.ensures.ok in
@@ -43,6 +44,6 @@ returns-in-Ok g c =
     rw (
       ← c.self.view_is,
       c.started_answer-answer.ensures,
-      c.work_of.ensures,
+      c.work_of.ensures.seen,
     ) (started p c.args.plan (taken_seen c.in-Ok.told) c.start.new.self.seen c.set_card_fault.new.status (subst (λ (x : Panel).
-    MayScan x) (sym c.self.view_is) c.requires.may) same c.requires.ready goes status)
+    MayScan x) (sym (panel_is c.self.view_is)) c.requires.may) same c.requires.ready goes status)

@@ -6,8 +6,8 @@ use Rattle.sw_core.specs.Registers.{card_fault_reported}
 use Rattle.sw_core.proofs.CallsLemmas.{failed_sets, fallen, fallen_cage}
 use Rattle.sw_core.proofs.state.Core.close.Goals as goal
 
-pub returns-in-Ok-close_listed : goal.returns-in-Ok-close_listed
-returns-in-Ok-close_listed g c =
+pub returns-in-Ok-close_listed-clause-step : goal.returns-in-Ok-close_listed-clause-step
+returns-in-Ok-close_listed-clause-step g c =
     let cage = ap (λ (s : CageSeen). let p : Panel = record {
       cage = s;
       sessions = c.self.inside.sessions;
@@ -18,8 +18,8 @@ returns-in-Ok-close_listed g c =
     } in p) c.close_listed.ensures.rest in
     rw (← c.self.view_is) (failed_sets _ _ _ _ c.in-Ok-close_listed.ensures.ok, c.in-Ok.ensures.ok, c.in-Ok-close_listed.ensures.ok, cage)
 
-pub returns-in-Err : goal.returns-in-Err
-returns-in-Err g c =
+pub returns-in-Err-clause-step : goal.returns-in-Err-clause-step
+returns-in-Err-clause-step g c =
     let f = fallen c.self.inside.cage.seen.cards c.close_listed.new.self.seen.cards c.open_all.new.self.seen.cards c.args.chans.now c.in-Err.ensures.err (ap
     (λ (s : CageSeen).
     s.cards) c.open_all.ensures.open) in

@@ -8,8 +8,8 @@ use Rattle.sw_core.specs.Registers.{card_fault_cleared}
 use Rattle.sw_core.proofs.CallsLemmas.{failed_ejected}
 use Rattle.sw_core.proofs.state.Core.eject.Goals as goal
 
-pub returns-in-Ok : goal.returns-in-Ok
-returns-in-Ok g c =
+pub returns-in-Ok-clause-acts : goal.returns-in-Ok-clause-acts
+returns-in-Ok-clause-acts g c =
     let cage = ap (λ (s : CageSeen). let p : Panel = record {
       cage = s;
       sessions = c.self.inside.sessions;

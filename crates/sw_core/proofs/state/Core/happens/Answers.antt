@@ -7,8 +7,8 @@ use Rattle.sw_core.specs.Registers.{card_fault_reported}
 use Rattle.sw_core.proofs.HappenedLemmas.{happened}
 use Rattle.sw_core.proofs.state.Core.happens.Goals as goal
 
-pub returns-else-tells_fault : goal.returns-else-tells_fault
-returns-else-tells_fault g c =
+pub returns-else-tells_fault-clause-step : goal.returns-else-tells_fault-clause-step
+returns-else-tells_fault-clause-step g c =
     let p : Panel = record {
       cage = c.self.inside.cage.seen;
       sessions = c.self.inside.sessions;
@@ -22,8 +22,8 @@ returns-else-tells_fault g c =
     k = c.take-told.ensures.ignored no in (k.0, seen_is k.1))
     c.take-told.ensures.taken c.take-told.ensures.takes whole)
 
-pub returns-then-tells_fault : goal.returns-then-tells_fault
-returns-then-tells_fault g c =
+pub returns-then-tells_fault-clause-step : goal.returns-then-tells_fault-clause-step
+returns-then-tells_fault-clause-step g c =
     let p : Panel = record {
       cage = c.self.inside.cage.seen;
       sessions = c.self.inside.sessions;

@@ -21,7 +21,7 @@ pub returns-clause-notes : goal.returns-clause-notes
 returns-clause-notes g c =
     let said : AnswerSeen = g.E.EventKind.answered c.ask-happened.new.answer c.ask-happened.new.left in
     let e : HistoryEntry = entry_of c.part.inside.seat (said_at c.ask-happened.new.self.panel (g.E.EventKind.asked c.args.ask) said) in
-    let here : c.self.inside.core.history ≡ c.args.self.now.history = ap (λ (l : Locked). l.history) c.self.view_is in
+    let here : c.self.inside.core.history ≡ c.args.self.now.history = ap (λ (l : Locked _). l.history) c.self.view_is in
     ap notes_of c.ask-happened.ensures.grown
     ∙ (notes_grown (is_event said) c.self.inside.core.history e
     ∙ ap (λ (es : List HistoryEntry). noted (is_event said) (notes_of es) (note_of e)) here)
