@@ -1,4 +1,4 @@
-"""Proofs of crates side by side, as processors and memory allow: first those with the longest chain behind them."""
+"""Proofs of crates side by side, as memory allows; processors go first to those with the longest chain behind them."""
 import contextlib
 import fcntl
 import os
@@ -16,8 +16,10 @@ DONE = re.compile(r"(?m)^checked \S+, (\d+) of (\d+)$")
 TELLING = re.compile(r": error|: not proved|: no proof|could not tell|^rattle: |^logic=|^error|Killed")
 MOST_LINES = 12  # of the prover's, where a proof fails
 MOST_JOBS = 4  # processors that one proof makes use of
+PRESSING = 0.3  # from 1, where others wait for a proof, to 0, where it has all the time: from here on it gets more jobs
+NICEST = 19  # of a process that takes what others leave
 MARGIN = 0.85  # of the free memory
-LIKELY = 0.6  # of the memory that is reckoned, of which small crates take less than half
+LIKELY = 0.45  # of the memory that is reckoned
 MORE = 1.2  # times what the last run took
 EACH_JOB = 0.6  # of a proof's memory, for each further job
 
@@ -48,8 +50,8 @@ class Cost(NamedTuple):
 class Proof:
     """A crate's proof as it runs: commands one after another, whose lines go to a file."""
 
-    def __init__(self, folder, log, commands, jobs):
-        self.folder, self.log, self.commands, self.jobs = folder, log, commands, jobs
+    def __init__(self, folder, log, commands, niceness):
+        self.folder, self.log, self.commands, self.niceness = folder, log, commands, niceness
         self.began, self.memory, self.status = time.monotonic(), 0, None
         self.processor, self.peak = 0, 0
         log.write_bytes(b"")
@@ -58,7 +60,12 @@ class Proof:
     def start(self):
         with open(self.log, "ab") as log:
             self.process = subprocess.Popen(self.commands.pop(0), cwd=self.folder, stdin=subprocess.DEVNULL, stdout=log,
-                                            stderr=log, start_new_session=True)
+                                            stderr=log, preexec_fn=self.step_back)
+
+    def step_back(self):
+        """In the new process: a group of its own, and no session, which Linux may give a share of its own."""
+        os.setpgid(0, 0)
+        os.nice(self.niceness)
 
     def is_over(self):
         """Whether the last command has ended, or one has failed; its status then stands in `status`."""
@@ -107,6 +114,13 @@ class Lanes:
         self.done = {it for it in self.names if self.is_kept(it)}
         self.running, self.lone = {}, set()
         self.room, self.processors = MARGIN * free_memory(), processors()
+        # Known once: a loop that asks for these takes a processor from the proofs.
+        self.weights = {it: self.weight(it) for it in self.names}
+        self.needs = {it: self.memory(it) for it in self.names}
+        self.chains = {}
+        for name in reversed(self.names):
+            above = [self.chains[it] for it in self.chains if name in crates.own(it)]
+            self.chains[name] = self.weights[name] + max(above, default=0)
 
     def last_costs(self):
         try:
@@ -131,38 +145,38 @@ class Lanes:
     def memory(self, name):
         return MORE * self.costs[name].memory if name in self.costs else LIKELY * self.crates.memory(name)
 
-    def chain(self, name, spent=0):
+    def left(self, name, spent):
         """The seconds until the program stands, were each crate proved as soon as those below it are."""
-        above = [it for it in self.names if name in self.crates.own(it)]
-        return max(self.weight(name) - spent, 0) + max(map(self.chain, above), default=0)
+        return self.chains[name] - min(self.weights[name], spent)
 
     def ready(self):
         waiting = [it for it in self.names if it not in self.done and it not in self.running]
         found = [it for it in waiting if all(below in self.done for below in self.crates.own(it))]
-        return sorted(found, key=lambda it: -self.chain(it))
+        return sorted(found, key=lambda it: -self.chains[it])
 
     def begin(self):
-        """Starts each proof for which there is a processor, and memory beside the others."""
+        """Starts each proof for which there is memory beside the others."""
         ready = self.ready()
-        for at, name in enumerate(ready):
-            idle = self.processors - sum(it.jobs for it in self.running.values())
+        longest = max((self.chains[it] for it in [*ready, *self.running]), default=0)
+        for name in ready:
             room = self.room - sum(it.memory for it in self.running.values())
-            need = self.memory(name)
+            need = self.needs[name]
             is_lone = name in self.lone or any(it in self.lone for it in self.running)
-            if idle < 1 or self.running and (is_lone or need > room):
+            if self.running and (is_lone or need > room):
                 continue
-            # A proof gets the processors that no other waits for, and that of the longest chain half at least.
-            others = len(ready) - at - 1
-            share = max((idle + 1) // 2, idle - others) if at == 0 else idle // (others + 1)
-            jobs = max(1, min(MOST_JOBS, share, 1 + int((room / need - 1) / EACH_JOB)))
-            self.start(name, 1 if is_lone else jobs, need)
+            # What others wait for goes first. What nothing waits for yet fills the processors that this leaves.
+            urgency = self.weights[name] / (self.weights[name] + longest - self.chains[name] or 1)
+            most = min(MOST_JOBS, self.processors) if urgency > PRESSING and not is_lone else 1
+            jobs = max(1, min(most, 1 + int((room / need - 1) / EACH_JOB)))
+            self.start(name, jobs, need, urgency)
 
-    def start(self, name, jobs, need):
+    def start(self, name, jobs, need, urgency):
         at = self.crates.made(name)
         shutil.rmtree(at, ignore_errors=True)
         at.mkdir(parents=True)
         commands = self.crates.commands(name, jobs)
-        proof = Proof(self.crates.root / "crates" / name, self.folder / f"{name}.log", commands, jobs)
+        niceness = round(NICEST * (1 - urgency))
+        proof = Proof(self.crates.root / "crates" / name, self.folder / f"{name}.log", commands, niceness)
         proof.memory = need * (1 + EACH_JOB * (jobs - 1))
         self.running[name] = proof
 
@@ -206,7 +220,7 @@ class Lanes:
         now = [f"{name} {proof.functions()}" for name, proof in self.running.items()]
         text = "; ".join([f"proved {len(self.done)} of {len(self.names)} crates", ", ".join(now)])
         if all(it in self.costs for it in self.names if it not in self.done):
-            left = [self.chain(it, proof.seconds()) for it, proof in self.running.items()]
+            left = [self.left(it, proof.seconds()) for it, proof in self.running.items()]
             text += f"; {max(left, default=0) / 60:.0f} minutes left"
         return text
 
