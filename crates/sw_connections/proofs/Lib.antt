@@ -1,2 +1,3 @@
+mod AdmissionLemmas
 mod SideLemmas
 mod WaitedLemmas

@@ -1,4 +1,5 @@
 pub mod Limits
+pub mod Admission
 pub mod Leaving
 pub mod Side
 pub mod Reads

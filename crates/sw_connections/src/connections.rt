@@ -1,11 +1,13 @@
 //! The connections that are served.
 
-ghost use Rattle.std.specs.Prelude.{◌≡◌};
+ghost use Rattle.std.specs.Prelude.{◌≡◌, IfErr};
+ghost use Rattle.sw_connections.specs.Admission.{Admits};
 ghost use Rattle.sw_connections.specs.Limits.{one_more};
 ghost use Rattle.sw_connections.specs.Leaving.{at_the_end};
 
 use crate::line::Line;
 use std::alloc::{AllocError, Global};
+use std::marker::{Brand, Model};
 use std::sync::{Mutex, Wait};
 use sw_base::SESSIONS;
 use sw_session::Channel;
@@ -24,6 +26,43 @@ fn one_more(pending: u32) -> Option<u32>
         Some(pending + 1)
     } else {
         None
+    }
+}
+
+/// Why a connection is not served.
+#[derive(Clone, Copy, Debug, PartialEq, Eq, Drop)]
+pub enum Unserved {
+    /// The server ends.
+    Ending,
+    /// As many connections as may be have no session.
+    Full,
+    /// There is no memory for it.
+    NoMemory,
+}
+
+/// Which mainframe it is, to the connections that come. Only the call here that was to admit one proves why it is not
+/// served.
+pub trait Admission {
+    ghost use Rattle.std.specs.Prelude.{IfErr};
+    ghost use Rattle.sw_connections.specs.Admission.{Admits};
+    ghost use Rattle.sw_connections.specs.declared.connections.Unserved.{Unserved};
+
+    /// A connection was not served, for this cause.
+    ghost turned_away: { Unserved → Type 0 };
+
+    /// One more connection is served, where it may be: its ticket.
+    fn admit(rows: &mut Rows, line: Option<Line>) -> Result<u64, Unserved>
+        ensures admits { Admits rows.old result rows.new }
+        ensures cause { IfErr result (λ why. turned_away why) };
+}
+
+impl Admission for Brand {
+    ghost use Rattle.sw_connections.specs.Admission.{Admitted, TurnsAway};
+
+    ghost turned_away = { λ why. (admitted : Admitted) × TurnsAway admitted why };
+
+    fn admit(rows: &mut Rows, line: Option<Line>) -> Result<u64, Unserved> {
+        rows.admit(line)
     }
 }
 
@@ -76,7 +115,7 @@ impl Row {
 
 /// The connections that are served, and how many of them have no session.
 #[derive(Drop)]
-struct Rows {
+pub struct Rows {
     rows: Vec<Row>,
     pending: u32,
     /// The next one's ticket.
@@ -85,23 +124,45 @@ struct Rows {
     is_closed: bool,
 }
 
+impl Model for Rows {
+    ghost use Rattle.std.specs.Vec.{vec_capacity, vec_len};
+    ghost use Rattle.sw_connections.specs.Admission.{Admitted};
+
+    ghost Value = { Admitted };
+
+    ghost view = { λ r. record {
+      served = vec_len r.rows;
+      pending = r.pending;
+      room = vec_capacity r.rows;
+      next = r.next;
+      closed = r.is_closed;
+    } };
+}
+
 impl Rows {
-    /// One more, where there is room for it: its ticket.
-    fn admit(&mut self, line: Option<Line>) -> Option<u64> {
+    /// One more, where it may be served: its ticket.
+    fn admit(&mut self, line: Option<Line>) -> Result<u64, Unserved>
+        ensures { Admits self.old result self.new }
+    {
         if self.is_closed {
-            return None;
+            return Err(Unserved::Ending);
         }
-        let pending = one_more(self.pending)?;
+        let Some(pending) = one_more(self.pending) else {
+            return Err(Unserved::Full);
+        };
         let ticket = self.next;
         let row = Row {
             ticket,
             line,
             channel: None,
         };
-        self.rows.push(row).ok()?;
+        if let Err(failed) = self.rows.push(row) {
+            drop(failed);
+            return Err(Unserved::NoMemory);
+        }
         self.pending = pending;
         self.next = ticket.wrapping_add(1);
-        Some(ticket)
+        Ok(ticket)
     }
 
     /// The connection with this ticket has a session, whose channel it is.
@@ -145,10 +206,12 @@ impl Connections {
         })
     }
 
-    /// One more connection is served, which has no session yet: its ticket. None where there is no room, or the server
-    /// ends.
-    pub fn admit<W: Wait>(&self, rt: &W, line: Option<Line>) -> Option<u64> {
-        self.rows.lock(rt).admit(line)
+    /// One more connection is served, which has no session yet, where it may be: its ticket.
+    pub fn admit<H: Admission, W: Wait>(&self, rt: &W, line: Option<Line>) -> Result<u64, Unserved>
+        ensures { IfErr result (λ why. H.turned_away why) }
+    {
+        let mut rows = self.rows.lock(rt);
+        H::admit(&mut rows, line)
     }
 
     /// The connection with this ticket has a session, whose channel it is.

@@ -6,8 +6,9 @@
 //! serves: a connection of the server's `Connections`, and its session, once that is known. `Reading` is what a channel
 //! reads from (`ByteSource`); a second channel's thread writes what the first one left before each read.
 //!
-//! `Outbox` and `Hearing` are marks of a mainframe that one call alone gives: bytes were refused because they are too
-//! many, or because memory had to grow and was refused; a client was found gone.
+//! `Admission`, `Outbox` and `Hearing` are marks of a mainframe that one call alone gives: a connection was not served,
+//! since too many have no session, or the server ends; bytes were refused because they are too many, or because memory
+//! had to grow and was refused; a client was found gone.
 //!
 //! No contract says what a client or the system does to a line, nor when.
 #![tactic(auto)]
@@ -27,7 +28,7 @@ mod side;
 
 pub use clients::Clients;
 pub use connection::{Connection, Tcp, Wired};
-pub use connections::Connections;
+pub use connections::{Admission, Connections, Unserved};
 pub use leaving::await_served;
 pub use limits::{Limit, slice_of};
 pub use line::{Hearing, Line};

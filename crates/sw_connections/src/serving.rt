@@ -1,9 +1,10 @@
 //! What the thread of a connection serves.
 
-ghost use Rattle.std.specs.Prelude.{◌≡◌, true, OnErr};
+ghost use Rattle.std.specs.Prelude.{◌≡◌, true, IfErr, OnErr};
+ghost use Rattle.sw_connections.specs.Admission.{IsUnserved};
 
 use crate::clients::Clients;
-use crate::connections::Connections;
+use crate::connections::{Connections, Unserved};
 use crate::limits::{is_overdue, ms_between};
 use crate::line::Line;
 use crate::room::{Room, Session};
@@ -50,19 +51,25 @@ impl<H: Clients> Serving<H> {
         }
     }
 
-    /// A connection is served from now on, and no session yet. It gives false, and serves nothing, where there is no
-    /// room for one more connection, or no memory for its session's room.
-    pub fn begin<W: Wait + Clock>(&self, rt: &W, line: Option<Line>) -> bool {
+    /// A connection is served from now on, and no session yet. Where the server turns it away, or there is no memory for
+    /// its session's room, nothing is served.
+    #[tactic(auto, using(crate::proofs::AdmissionLemmas::is_unserved))]
+    pub fn begin<W: Wait + Clock>(&self, rt: &W, line: Option<Line>) -> Result<(), Unserved>
+        ensures { IfErr result (λ why. IsUnserved H.turned_away why) }
+    {
         let Ok(room) = Room::new(self.alloc) else {
-            return false;
+            return Err(Unserved::NoMemory);
         };
         let copy = match &line {
             Some(line) => line.try_clone().ok(),
             None => None,
         };
-        let Some(ticket) = self.connections.admit(rt, copy) else {
-            drop(room);
-            return false;
+        let ticket = match self.connections.admit::<H, W>(rt, copy) {
+            Ok(ticket) => ticket,
+            Err(why) => {
+                drop(room);
+                return Err(why);
+            }
         };
         *self.served.lock(rt) = Served {
             line,
@@ -71,7 +78,7 @@ impl<H: Clients> Serving<H> {
             session: None,
             room: Some(room),
         };
-        true
+        Ok(())
     }
 
     /// Nothing is served any more, and the connection ends.

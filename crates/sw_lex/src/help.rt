@@ -3,8 +3,8 @@
 ghost use Rattle.std.specs.Prelude.{◌≡◌};
 ghost use Rattle.sw_lex.specs.Help.{headers_text};
 
-/// The lines of the table, in its order. `specs/Help.antt` makes them of `specs/Table.antt`, so that a row that is added
-/// there has to be added here, and the length with it.
+/// The lines of the table, in its order. `specs/Help.antt` makes them of `specs/Table.antt`, so that a row that is
+/// added there has to be added here, and the length with it.
 static HEADERS: &[u8] = b"#41395\
     *IDN?/qonly/\n\
     *RST/nquery/\n\

@@ -104,8 +104,8 @@ fn is_listed(rt: &impl Abort, alloc: Global, code: &Code) -> Result<(), Fail> {
     Ok(())
 }
 
-/// Whether the code has six steps a pass, two of each ARM layer, two of each layer's counter, and its end; and awaits four
-/// things a pass, and two of each ARM layer.
+/// Whether the code has six steps a pass, two of each ARM layer, two of each layer's counter, and its end; and awaits
+/// four things a pass, and two of each ARM layer.
 fn is_longest(rt: &impl Abort, alloc: Global, code: &Code) -> Result<(), Fail> {
     assert_eq!(rt; code.steps().len(), 6_153);
     assert!(rt; counts_of(alloc, code)? == (4_098, 1_023));

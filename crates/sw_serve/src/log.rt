@@ -7,6 +7,7 @@ use std::fmt;
 use std::fmt::{Display, Formatter, Write};
 use std::net::SocketAddr;
 use sw_session::ServeFault;
+use sw_workers::Unserved;
 
 /// A remark of a server's log. None has anything that a client sends.
 #[derive(Clone, Copy)]
@@ -70,15 +71,20 @@ impl Log for Silent {
 /// The code of FatalError where there are too many clients.
 const TOO_MANY_CLIENTS: u8 = 4;
 
-/// How a connection that was served with this result has ended. `is_begun`: there was room and memory to begin.
-pub fn parting_of(is_begun: bool, served: Result<(), ServeFault>) -> Parting
-    ensures { result ≡ parting_of is_begun served }
+/// How a connection has ended that was served with this result, or was not served for this cause.
+pub fn parting_of(unserved: Option<Unserved>, served: Result<(), ServeFault>) -> Parting
+    ensures { result ≡ parting_of unserved served }
 {
+    match unserved {
+        Some(Unserved::Ending) => return Parting::End,
+        Some(Unserved::Full) => return Parting::Full,
+        Some(Unserved::NoMemory) => return Parting::NoMemory,
+        None => {}
+    }
     match served {
         Ok(()) => Parting::End,
         Err(ServeFault::Wire) => Parting::BrokenHeader,
         Err(ServeFault::ReadBound) => Parting::ReadBound,
-        Err(ServeFault::NoMemory) if !is_begun => Parting::Full,
         Err(ServeFault::NoMemory) => Parting::NoMemory,
         Err(ServeFault::Fatal(TOO_MANY_CLIENTS)) => Parting::Full,
         Err(ServeFault::Fatal(code)) => Parting::FatalError(code),

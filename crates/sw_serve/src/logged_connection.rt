@@ -3,7 +3,7 @@
 use crate::log::{Log, Remark, parting_of};
 use std::io::{self, Read};
 use sw_session::ServeFault;
-use sw_workers::{Connection, Line, Tcp};
+use sw_workers::{Connection, Line, Tcp, Unserved};
 
 /// A connection of this number.
 #[derive(Drop)]
@@ -23,8 +23,8 @@ pub struct LoggedReader<L: Log + Drop> {
 
 impl<L: Log + Drop> LoggedReader<L> {
     /// Reports that the connection has left, which was served so.
-    pub fn tell_end(&self, is_begun: bool, served: Result<(), ServeFault>) {
-        let parting = parting_of(is_begun, served);
+    pub fn tell_end(&self, unserved: Option<Unserved>, served: Result<(), ServeFault>) {
+        let parting = parting_of(unserved, served);
         self.log.tell(Remark::Left(self.number, parting));
     }
 }

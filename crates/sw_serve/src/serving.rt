@@ -406,10 +406,11 @@ fn attend<
     ensures { IfSome result (λ ended. (desk : _)
         × RunsSession (λ before entry after. DeskPasses H.first H.over H.client_gone
         (desk_seen before.part before.serves) entry (desk_seen after.part after.serves))
-        (mishaps C.In.ByteSource C.Out.Sink C.Aside.Sink H.refused ended.reader ended.writer ended.aside) turns
+        (mishaps C.In.ByteSource C.Out.Sink C.Aside.Sink H.refused ended.reader ended.writer ended.aside)
+        H.turned_away turns
         (connection_seen desk (C.input connection) (C.pauses connection) (C.output connection))
         (connection_seen ended.desk (C.In.remaining ended.reader) (C.In.pauses ended.reader)
-        (C.Out.contents ended.writer)) ended.result) }
+        (C.Out.contents ended.writer)) ended.unserved ended.result) }
 {
     let desk = pool.desk();
     drop(pool);
@@ -438,10 +439,10 @@ fn desk_of<
         reader,
         writer,
         aside,
-        is_begun,
+        unserved,
         result,
     } = served?;
-    reader.tell_end(is_begun, result);
+    reader.tell_end(unserved, result);
     drop(reader);
     drop(writer);
     drop(aside);

@@ -253,8 +253,8 @@ pub fn is_served(
     is_so
 }
 
-/// Whether the talk is answered whole when it comes in such pieces. That a message is available is noted for each of the
-/// answer's two parts.
+/// Whether the talk is answered whole when it comes in such pieces. That a message is available is noted for each of
+/// the answer's two parts.
 fn is_whole_talk(alloc: Global, first: usize, rest: usize) -> bool {
     let mut reader = Pieces::new(TALK, first, rest);
     let served = serve(alloc, Channel::Synchronous, &mut reader, 1000);

@@ -90,8 +90,8 @@ impl Talker {
     }
 
     /// Talks over one program message as `message` does, and leaves the answers in `out` in place of what was there.
-    /// Its memory is used again, where it is no more than `KEPT_BYTES`. It is false where the desk has answered that the
-    /// session is being cleared, is joined no more, or that nothing more can be numbered.
+    /// Its memory is used again, where it is no more than `KEPT_BYTES`. It is false where the desk has answered that
+    /// the session is being cleared, is joined no more, or that nothing more can be numbered.
     pub fn message_into<D: Desk>(&mut self, text: &[u8], desk: &mut D, out: &mut Vec<u8>) -> bool
         ensures talked { (t : Talked D.passes self.old.sid (state desk.old self.old.macros)
             text.now out.new.items (state desk.new self.new.macros)) × (t.lasts ≡ result) }

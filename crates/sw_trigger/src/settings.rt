@@ -46,8 +46,8 @@ impl Model for Settings {
 }
 
 impl Settings {
-    /// The settings at `*RST`: each layer once and at once, nothing listed, the meter in slot 4, 1,000 points, no time to
-    /// settle.
+    /// The settings at `*RST`: each layer once and at once, nothing listed, the meter in slot 4, 1,000 points, no time
+    /// to settle.
     pub fn new(alloc: Global) -> Settings
         ensures { result ≡ at_reset }
     {

@@ -1,6 +1,6 @@
 -- A channel's server from what was heard on.
 use Rattle.std.proofs.Common.{◌≡◌, ◌⊎◌, inl, inr, ℕ, List, ◌++◌, length, Option, None, Some, Result, Ok, Err, OnOk, OnErr, ◌∙◌, refl}
-use Rattle.std.proofs.Common.{subst}
+use Rattle.std.proofs.Common.{subst, sym}
 use Rattle.std.specs.Io.KnownBytes.{Consumes, IsAtEnd, prepend_known}
 use Rattle.sw_channels.specs.declared.step.Channel.{Channel}
 use Rattle.sw_channels.specs.declared.step.Channel.TheVariants.{Synchronous}
@@ -10,7 +10,8 @@ use Rattle.sw_talk.specs.Trace.{Entry}
 use Rattle.sw_session.specs.ServeEngine.{Station, ServesChannel}
 use Rattle.sw_session.specs.Beginning.{NamesChannel}
 use Rattle.sw_connections.specs.Reads.{Waited}
-use Rattle.sw_workers.specs.Connected.{Mishaps, ConnectionSeen, beside, Fails, ServesFromHeader}
+use Rattle.sw_connections.specs.declared.connections.Unserved.{Unserved}
+use Rattle.sw_workers.specs.Connected.{Mishaps, ConnectionSeen, beside, Fails, ServesFromHeader, RunsSession}
 
 -- the same run, of an input that it consumed as well
 serves-as : {D : Type 0} (passes : D → Entry → D → Type 0) (own : Channel) (turns : ℕ) (before after : Station D)
@@ -88,3 +89,11 @@ of_first (inr f) = inr (refl, f.2)
 pub of_second : {U S R : Type 0} → U ⊎ Fails (λ (old new : S). ⊥) → U ⊎ R
 of_second (inl u) = inl u
 of_second (inr f) = absurd f.2
+
+-- one that is not turned away is served
+pub is_served : {D : Type 0} (passes : D → Entry → D → Type 0) (m : Mishaps) (turned_away : Unserved → Type 0) (turns : ℕ)
+    (before after : ConnectionSeen D) (unserved : Option Unserved) (result : Result (Unit {0}) ServeFault)
+    → unserved ≡ None → ServesFromHeader passes m turns before after result
+    → RunsSession passes m turned_away turns before after unserved result
+is_served passes m turned_away turns before after unserved result none serves =
+    subst (λ u. RunsSession passes m turned_away turns before after u result) (sym none) serves

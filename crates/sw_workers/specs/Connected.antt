@@ -1,17 +1,19 @@
 -- How a connection is served.
-use Rattle.std.specs.Prelude.{◌≡◌, ◌⊎◌, ℕ, List, length, Option, Result, Err}
+use Rattle.std.specs.Prelude.{◌≡◌, ◌⊎◌, ℕ, List, length, Option, None, Some, Result, Ok, Err}
 use Rattle.std.specs.Io.KnownBytes.{Consumes, IsAtEnd}
 use Rattle.sw_channels.specs.declared.step.Channel.{Channel}
 use Rattle.sw_channels.specs.declared.step.Channel.TheVariants.{Synchronous}
 use Rattle.sw_session.specs.declared.fault.ServeFault.{ServeFault}
-use Rattle.sw_session.specs.declared.fault.ServeFault.TheVariants.{Read, Write, NoMemory}
+use Rattle.sw_session.specs.declared.fault.ServeFault.TheVariants.{Read, Write}
 use Rattle.sw_session.specs.declared.source.ByteSource as ByteSource
 use Rattle.sw_session.specs.declared.writing.Sink as Sink
 use Rattle.sw_session.specs.ServeRead.{IsLedTo}
 use Rattle.sw_talk.specs.Trace.{Entry}
 use Rattle.sw_session.specs.ServeEngine.{Station, ServesChannel}
 use Rattle.sw_session.specs.Beginning.{NamesChannel}
+use Rattle.sw_connections.specs.Admission.{IsUnserved}
 use Rattle.sw_connections.specs.Reads.{Waited}
+use Rattle.sw_connections.specs.declared.connections.Unserved.{Unserved}
 
 -- such a step was made, between some states
 abbrev pub Fails : {S : Type 0} → (S → S → Type 0) → Type 0
@@ -80,10 +82,9 @@ pub record ServesFromHeader {D : Type 0} (passes : D → Entry → D → Type 0)
   pub read : result ≡ Err Read → m.unread
   pub write : result ≡ Err Write → m.unwritten ⊎ ((channel ≡ Synchronous) × m.refused)
 
--- There was no memory to begin, or no room for one more connection, and nothing was read, asked or written; or the
--- connection is served.
-abbrev pub RunsSession : {D : Type 0} → (D → Entry → D → Type 0) → Mishaps → ℕ → ConnectionSeen D → ConnectionSeen D
-    → Result (Unit {0}) ServeFault → Type 0
-RunsSession passes m turns before after result =
-    ((result ≡ Err NoMemory) × (after ≡ before))
-    ⊎ ServesFromHeader passes m turns before after result
+-- The connection is served; or it is not, for a cause, and nothing was read, asked or written.
+abbrev pub RunsSession : {D : Type 0} → (D → Entry → D → Type 0) → Mishaps → (turned_away : Unserved → Type 0)
+    → (turns : ℕ) → ConnectionSeen D → ConnectionSeen D → Option Unserved → Result (Unit {0}) ServeFault → Type 0
+RunsSession passes m turned_away turns before after None result = ServesFromHeader passes m turns before after result
+RunsSession passes m turned_away turns before after (Some why) result =
+    IsUnserved turned_away why × (after ≡ before) × (result ≡ Ok tt)

@@ -34,7 +34,8 @@ pub struct Closed<R: Relay, M: Meter> {
 }
 
 /// Ends a mainframe, where the caller gives every desk back, every relay was opened and no session has asked since.
-/// Each meter is the very card that came into its slot last. Else, where a desk is missing, or there is no memory, it gives back what it was given, and changes nothing.
+/// Each meter is a card that came into its slot. Else, where a desk is missing, or there is no memory, it gives back
+/// what it was given, and changes nothing.
 pub fn close_down<H: Mainframe, R: Relay, M: Meter, G: Gate + Drop, W: Wait + Clock + Copy + Drop>(
     rt: &W,
     alloc: Global,

@@ -42,7 +42,7 @@ pub use mainframe::Mainframe;
 pub use pauses::Pause;
 pub use session::{Ended, run_session};
 pub use shared::{Opening, Shared};
-pub use sw_connections::{Connection, Line, Tcp, Wired};
+pub use sw_connections::{Connection, Line, Tcp, Unserved, Wired};
 pub use sw_history::{AskKind, DeskPart, Held, Note, StatusBoard, StatusSeat};
 pub use work_channels::WorkReceivers;
 pub use workers::{run_card_worker, run_timer_worker};

@@ -1,6 +1,7 @@
 //! A session's connections, each served by the desk of one thread.
 
-ghost use Rattle.std.specs.Prelude.{◌≡◌, ◌⊎◌, ◌≤◌, ℕ, List, [], Option, Err, length, vec_capacity, OnOk, OnErr};
+ghost use Rattle.std.specs.Prelude.{◌≡◌, ◌⊎◌, ◌≤◌, ℕ, List, [], Option, None, Some, Ok, Err, length, vec_capacity};
+ghost use Rattle.std.specs.Prelude.{OnOk, OnErr};
 ghost use Rattle.std.specs.Io.KnownBytes.{Consumes, IsAtEnd, prepend_known};
 ghost use Rattle.sw_talk.specs.Talk.{turns};
 ghost use Rattle.sw_session.specs.ServeRead.{IsLedTo};
@@ -17,7 +18,7 @@ use std::alloc::Global;
 use std::sync::{Arc, Wait};
 use std::time::Clock;
 use sw_card::{Meter, Relay};
-use sw_connections::{Connection, Reading, Serving, read_header};
+use sw_connections::{Connection, Reading, Serving, Unserved, read_header};
 use sw_hislip::HEADER;
 use sw_session::{
     Beginning, ByteSource, Channel, Desk, ServeFault, Sink, TURNS, Unread, Unwritten, serve_channel,
@@ -36,8 +37,9 @@ pub struct Ended<D: Drop, R: Drop, O: Drop, A: Drop> {
     pub writer: O,
     /// The second way to the client.
     pub aside: A,
-    /// There was room for the connection, and memory to begin.
-    pub is_begun: bool,
+    /// Why the connection was not served, if it was not: then nothing was read, asked or written.
+    pub unserved: Option<Unserved>,
+    /// How its channel was served.
     pub result: Result<(), ServeFault>,
 }
 
@@ -95,10 +97,11 @@ pub fn run_session<
 ) -> Ended<SharedDesk<H, R, M, G, W>, C::In, C::Out, C::Aside>
     ensures { RunsSession (λ before entry after. DeskPasses H.first H.over H.client_gone
         (desk_seen before.part before.serves) entry (desk_seen after.part after.serves))
-        (mishaps C.In.ByteSource C.Out.Sink C.Aside.Sink H.refused result.reader result.writer result.aside) turns
+        (mishaps C.In.ByteSource C.Out.Sink C.Aside.Sink H.refused result.reader result.writer result.aside)
+        H.turned_away turns
         (connection_seen desk (C.input connection) (C.pauses connection) (C.output connection))
         (connection_seen result.desk (C.In.remaining result.reader) (C.In.pauses result.reader)
-        (C.Out.contents result.writer)) result.result }
+        (C.Out.contents result.writer)) result.unserved result.result }
 {
     let line = connection.line();
     let (reader, writer, aside) = connection.into_parts();
@@ -109,13 +112,13 @@ pub fn run_session<
     };
     let rt = desk.rt;
     let Ok(serving) = Arc::try_clone(&desk.serving) else {
-        return unbegun(wire, desk);
+        return unbegun(wire, desk, Unserved::NoMemory);
     };
     let Ok(header) = Vec::with_capacity(alloc, HEADER) else {
-        return unbegun(wire, desk);
+        return unbegun(wire, desk, Unserved::NoMemory);
     };
-    if !serving.begin(&rt, line) {
-        return unbegun(wire, desk);
+    if let Err(why) = serving.begin(&rt, line) {
+        return unbegun(wire, desk, why);
     }
     let ended = serve_parts::<H, C, _, W>(rt, alloc, header, wire, desk, &*serving);
     ended.desk.serving.finish(&rt);
@@ -130,12 +133,17 @@ struct Parts<I: Drop, O: Drop, A: Drop> {
     aside: A,
 }
 
-/// What is left where there was no memory to begin, or no room for one more connection.
-fn unbegun<I: Drop, O: Drop, A: Drop, D: Drop>(wire: Parts<I, O, A>, desk: D) -> Ended<D, I, O, A>
+/// What is left of a connection that is not served, for this cause.
+fn unbegun<I: Drop, O: Drop, A: Drop, D: Drop>(
+    wire: Parts<I, O, A>,
+    desk: D,
+    why: Unserved,
+) -> Ended<D, I, O, A>
     ensures desk { result.desk ≡ desk }
     ensures reader { result.reader ≡ wire.reader }
     ensures writer { result.writer ≡ wire.writer }
-    ensures result { result.result ≡ Err ServeFault.NoMemory }
+    ensures why { result.unserved ≡ Some why }
+    ensures result { result.result ≡ Ok tt }
 {
     let Parts {
         reader,
@@ -147,8 +155,8 @@ fn unbegun<I: Drop, O: Drop, A: Drop, D: Drop>(wire: Parts<I, O, A>, desk: D) ->
         reader,
         writer,
         aside,
-        is_begun: false,
-        result: Err(ServeFault::NoMemory),
+        unserved: Some(why),
+        result: Ok(()),
     }
 }
 
@@ -181,11 +189,12 @@ fn serve_parts<H: Mainframe, C: Connection, D: Desk + Drop, W: Wait + Clock + Co
     serving: &Serving<H>,
 ) -> Ended<D, C::In, C::Out, C::Aside>
     requires { (header.items ≡ []) × (16 ≤ vec_capacity header) }
-    ensures { ServesFromHeader D.passes
+    ensures serves { ServesFromHeader D.passes
         (mishaps C.In.ByteSource C.Out.Sink C.Aside.Sink H.refused result.reader result.writer result.aside) turns
         (connection_seen desk (C.In.remaining wire.reader) (C.In.pauses wire.reader) (C.Out.contents wire.writer))
         (connection_seen result.desk (C.In.remaining result.reader) (C.In.pauses result.reader)
         (C.Out.contents result.writer)) result.result }
+    ensures served { result.unserved ≡ None }
 {
     let Parts {
         mut reader,
@@ -233,6 +242,7 @@ fn serve_from<H: Mainframe, C: Connection, S: Sink + Drop, D: Desk + Drop, W: Wa
     ensures read { result.result ≡ Err ServeFault.Read
         → IsLedTo C.In.failed result.reader ⊎ IsLedTo C.Aside.failed result.aside }
     ensures write { result.result ≡ Err ServeFault.Write → IsLedTo C.Out.failed result.writer ⊎ Fails S.failed }
+    ensures served { result.unserved ≡ None }
 {
     let mut source = source;
     let (mut writer, mut side) = writers;
@@ -252,7 +262,7 @@ fn serve_from<H: Mainframe, C: Connection, S: Sink + Drop, D: Desk + Drop, W: Wa
         reader,
         writer,
         aside,
-        is_begun: true,
+        unserved: None,
         result,
     }
 }

@@ -3,6 +3,7 @@
 ghost use Rattle.std.specs.Prelude.{◌≡◌, ◌<◌, ◌^◌, ℕ, Some};
 ghost use Rattle.sw_history.specs.Board.{pair_in};
 
+use crate::latches::{TURNS, turn};
 use std::marker::Brand;
 use std::process::Abort;
 use std::sync::atomic::{AtomicBool, Ordering};
@@ -10,18 +11,17 @@ use std::sync::{Mutex, Wait};
 use std::test::*;
 use std::thread;
 use std::thread::{Threads, join};
+use std::time::Clock;
 use sw_history::{BlankBoard, BoardName, LockedPass, SeatSlot};
 use sw_workers::{StatusBoard, StatusSeat};
 
-/// How often a thread looks whether another has come so far.
-const TURNS: u32 = 50_000_000;
-
-fn waits_for(flag: &AtomicBool) -> bool {
+/// Waits until the flag is up, for at most `TURNS` turns. Whether it came up.
+fn waits_for<C: Clock>(clock: &C, flag: &AtomicBool) -> bool {
     for _ in 0..TURNS {
         if flag.load(Ordering::SeqCst) {
             return true;
         }
-        thread::yield_now();
+        turn(clock);
     }
     false
 }
@@ -43,7 +43,7 @@ fn publishes<B: BoardName, W: Wait>(
 }
 
 /// Holds the lock until the flag is up, and gives whether it came up in time.
-pub fn holds<T: Drop, W: Wait>(
+pub fn holds<T: Drop, W: Wait + Clock>(
     rt: &W,
     lock: &Mutex<T>,
     held: &AtomicBool,
@@ -51,26 +51,27 @@ pub fn holds<T: Drop, W: Wait>(
 ) -> bool {
     let guard = lock.lock(rt);
     held.store(true, Ordering::SeqCst);
-    let in_time = waits_for(read);
+    let in_time = waits_for(rt, read);
     drop(guard);
     in_time
 }
 
 /// Reads once a thread has the lock.
-pub fn reads<B: BoardName>(
+pub fn reads<B: BoardName, C: Clock>(
+    clock: &C,
     board: &StatusBoard<B>,
     mut seat: StatusSeat<B>,
     held: &AtomicBool,
     read: &AtomicBool,
 ) -> (u8, u64) {
-    let _ = waits_for(held);
+    let _ = waits_for(clock, held);
     let pair = seat.read(board);
     read.store(true, Ordering::SeqCst);
     pair
 }
 
 /// The board's name is chosen where a test begins.
-fn under_the_lock<B: BoardName + Send + Sync, W: Threads + Wait + Abort + Sync>(
+fn under_the_lock<B: BoardName + Send + Sync, W: Threads + Wait + Clock + Abort + Sync>(
     rt: &W,
     blank: BlankBoard,
 )
@@ -86,7 +87,7 @@ fn under_the_lock<B: BoardName + Send + Sync, W: Threads + Wait + Abort + Sync>(
     let (in_time, pair) = join(
         rt,
         || holds(rt, &lock, &held, &read),
-        || reads(&board, seat, &held, &read),
+        || reads(rt, &board, seat, &held, &read),
     );
     assert!(rt; in_time && pair == (4, 1));
 }
@@ -115,7 +116,8 @@ fn publishes_on<B: BoardName, W: Wait>(
 }
 
 /// Reads until there are `most` requests. Gives whether they never went down, and how many there were.
-fn watches<B: BoardName>(
+fn watches<B: BoardName, C: Clock>(
+    clock: &C,
     board: &StatusBoard<B>,
     mut seat: StatusSeat<B>,
     most: u64,
@@ -129,12 +131,12 @@ fn watches<B: BoardName>(
         if last >= most {
             break;
         }
-        thread::yield_now();
+        turn(clock);
     }
     (rises, last)
 }
 
-fn while_published<B: BoardName + Send + Sync, W: Threads + Wait + Abort + Sync>(
+fn while_published<B: BoardName + Send + Sync, W: Threads + Wait + Clock + Abort + Sync>(
     rt: &W,
     blank: BlankBoard,
 )
@@ -147,7 +149,7 @@ fn while_published<B: BoardName + Send + Sync, W: Threads + Wait + Abort + Sync>
     let ((), (rises, last)) = join(
         rt,
         || publishes_on(rt, &board, &lock, desk, 40),
-        || watches(&board, seat, 39),
+        || watches(rt, &board, seat, 39),
     );
     assert!(rt; rises && last == 39);
 }
@@ -161,7 +163,7 @@ fn requests_never_go_down(rt: HostRuntime) -> Result<(), Fail> {
 
 /// One thread's event leaves a seat in the session's slot, and another thread, with a seat that saw nothing of it,
 /// polls.
-fn by_its_slot<B: BoardName + Send + Sync, W: Threads + Wait + Abort + Sync>(
+fn by_its_slot<B: BoardName + Send + Sync, W: Threads + Wait + Clock + Abort + Sync>(
     rt: &W,
     blank: BlankBoard,
     slot: &SeatSlot<B>,
@@ -196,18 +198,18 @@ fn leaves<B: BoardName, W: Wait>(
     left.store(true, Ordering::SeqCst);
 }
 
-fn polls<B: BoardName, W: Wait>(
+fn polls<B: BoardName, W: Wait + Clock>(
     rt: &W,
     board: &StatusBoard<B>,
     slot: &SeatSlot<B>,
     mut seat: StatusSeat<B>,
     left: &AtomicBool,
 ) -> (u8, u64) {
-    let _ = waits_for(left);
+    let _ = waits_for(rt, left);
     slot.poll(rt, board, &mut seat)
 }
 
-fn with_slot<B: BoardName + Send + Sync, W: Threads + Wait + Abort + Sync>(
+fn with_slot<B: BoardName + Send + Sync, W: Threads + Wait + Clock + Abort + Sync>(
     rt: &W,
     blank: BlankBoard,
 )

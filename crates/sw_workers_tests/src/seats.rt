@@ -13,6 +13,7 @@ use std::sync::atomic::AtomicBool;
 use std::sync::{Arc, Mutex, Wait};
 use std::test::*;
 use std::thread::{Threads, join};
+use std::time::Clock;
 use sw_base::ScpiError;
 use sw_card::{Meter, Relay};
 use sw_core::{Answer, Ask, SessionAnswer, SessionAsk, Sid};
@@ -101,7 +102,7 @@ fn tell<
     H: Mainframe + Send + Sync,
     R: Relay + Send,
     M: Meter + Send,
-    W: Threads + Wait + Abort + Sync,
+    W: Threads + Wait + Clock + Abort + Sync,
 >(rt: &W, scene: Scene<H, R, M>) {
     let mut scene = scene;
     let mut early = scene.splits();
@@ -126,7 +127,7 @@ fn tell<
     let (in_time, pair) = join(
         rt,
         || holds(rt, &lock, &is_held, &is_read),
-        || reads(&board, seat, &is_held, &is_read),
+        || reads(rt, &board, seat, &is_held, &is_read),
     );
     assert!(rt; in_time && pair == (4, 1));
 }
@@ -136,7 +137,7 @@ fn play<
     H: Mainframe + Send + Sync,
     R: Relay + Send,
     M: Meter + Send,
-    W: Threads + Wait + Abort + Sync,
+    W: Threads + Wait + Clock + Abort + Sync,
 >(rt: &W, alloc: Global, opening: Opening<R, M>)
     requires first { (opening.core.seen ≡ H.first) × IsFresh opening.core.seen }
     requires came { AllCame H.came opening.core.cards }

@@ -25,7 +25,7 @@ fn serve<H: Mainframe, R: Relay, M: Meter, G: Gate + Drop, W: Wait + Clock + Cop
         reader,
         writer,
         aside,
-        is_begun: _,
+        unserved: _,
         result,
     } = ended;
     drop(reader);

@@ -12,6 +12,11 @@ const THREE_PASSES: &[u8] =
     b"scan 1\nmeter 4\nset 0 1\nset 1 1\nset 2 1\nclose 1!1\nread\nopen 1!1\nclose 1!2\nread\n\
     open 1!2\nloop 2 3\nclose 1!1\nread\nopen 1!1\nloop 1 2\nloop 0 1\nhalt\n";
 
+/// The same with a word that is none on its sixth line.
+const MISSPELLED: &[u8] =
+    b"scan 1\nmeter 4\nset 0 1\nset 1 1\nset 2 1\ncloss 1!1\nread\nopen 1!1\nclose 1!2\nread\n\
+    open 1!2\nloop 2 3\nclose 1!1\nread\nopen 1!1\nloop 1 2\nloop 0 1\nhalt\n";
+
 /// The same as the newer version lists it, with a counter more.
 const THREE_PASSES_NOW: &[u8] =
     b"scan 2\nmeter 4\nset 0 1\nset 1 1\nset 2 1\nset 3 1\nclose 1!1\nread\nopen 1!1\nclose 1!2\nread\n\
@@ -45,6 +50,7 @@ fn listings_are_judged(rt: HostRuntime) -> Result<(), Fail> {
     );
     assert!(rt; says(alloc, b"scan 1\nmeter 1\nhalt\n", b"refused 3 NoMeter\n", 3));
     assert!(rt; says(alloc, b"scan 1\n", b"line 2: BadStep\n", 3));
+    assert!(rt; says(alloc, MISSPELLED, b"line 6: BadStep\n", 3));
     Ok(())
 }
 
