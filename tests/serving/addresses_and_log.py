@@ -1,6 +1,8 @@
 """The address that a server listens on, its log of connections, all readings, and what holds no session up."""
+import contextlib
 import re
 import resource
+import select
 import socket
 import subprocess
 import time
@@ -14,6 +16,7 @@ from support.server import Served, Supervised, is_refused
 from support.sessions import Client
 
 PAUSE = 0.2  # seconds
+MOST_WITHOUT_SESSION = 64  # connections
 
 
 def another_address(program):
@@ -77,6 +80,17 @@ def check_remarks(told):
     same("sessions", sessions, sorted([1, 1, *range(1, 17), *range(1, 17)]))
 
 
+def the_log_of_a_crowd(program):
+    """One more connection than may be without a session is closed at once, and the log says why."""
+    with Supervised(program, "--log") as served, contextlib.ExitStack() as opened:
+        crowd = [opened.enter_context(served.connect()) for _ in range(MOST_WITHOUT_SESSION + 1)]
+        closed, _, _ = select.select(crowd, [], [], PATIENCE)
+        same("what it reads", [it.recv(1) for it in closed], [b""])
+        served.end()
+    why = re.findall(r"^mainframe: connection \d+ ((?:left|refused): .*)$", "".join(served.remarks[1:]), re.M)
+    same("why they ended", sorted(why), MOST_WITHOUT_SESSION * ["left: end"] + ["refused: full"])
+
+
 def an_answer_of_all_readings(program):
     """More than a million bytes, over both ways."""
     typed = f"{SCAN.format(count=MOST_READINGS)}\nFETC?\n"
@@ -122,6 +136,6 @@ def accepts_that_fail_are_over_soon(program):
 
 
 CHECKS = [
-    another_address, an_address_of_version_six, the_log_of_connections, an_answer_of_all_readings,
+    another_address, an_address_of_version_six, the_log_of_connections, the_log_of_a_crowd, an_answer_of_all_readings,
     a_pause_holds_no_session_up, a_pause_lasts_its_time, accepts_that_fail_are_over_soon,
 ]
